@@ -1,0 +1,5 @@
+pub mod Lines
+pub mod Words
+pub mod Escapes
+pub mod Payloads
+pub mod Reading
