@@ -1,13 +1,24 @@
-// A library with one function.
+//! The outside of the agent: where bytes come from and go to, and forms of it over memory for runs
+//! that can be repeated.
 #![tactic(auto)]
 
-ghost use Rattle.std.specs.Prelude.{◌≡◌};
-ghost use Rattle.agent_link.specs.Echo.{echo_of};
+mod clock;
+mod fault;
+mod link;
+mod memory;
+mod page;
+mod sink;
+mod source;
+mod tape;
 
-// The `ensures` clause is the contract: what `echo` returns is `echo_of` of its argument, a definition
-// in `specs/Echo.antt`, which a caller's clause can cite too.
-pub fn echo(x: usize) -> usize
-    ensures { result ≡ echo_of x }
-{
-    x
-}
+pub use clock::{Clock, StepClock};
+pub use fault::Fault;
+pub use link::{Heard, Link};
+pub use memory::plan::FailPlan;
+pub use memory::sink::MemSink;
+pub use memory::source::MemSource;
+pub use memory::tape_link::TapeLink;
+pub use page::Page;
+pub use sink::{Sink, write_all};
+pub use source::{Source, read_all};
+pub use tape::{Item, Tape, TapeFault, read_tape};

@@ -95,6 +95,16 @@ impl<T> Seq<T> {
     }
 }
 
+impl Seq<u8> {
+    /// Adds bytes at the end. Where memory runs out, nothing has changed.
+    pub fn extend_from_slice(&mut self, bytes: &[u8]) -> Result<(), AllocError>
+        ensures ok { OnOk result (self.new ≡ self.old ++ bytes.now) }
+        ensures err { OnErr result (self.new ≡ self.old) }
+    {
+        self.items.extend_from_slice(bytes)
+    }
+}
+
 impl<T: Copied> Copied for Seq<T> {
     fn copy(&self, alloc: Global) -> Result<Seq<T>, AllocError> {
         copy_all(alloc, self.items.as_slice())

@@ -1,0 +1,5 @@
+pub mod Readings
+pub mod Writing
+pub mod Gave
+pub mod Tapes
+pub mod Plays

@@ -1,0 +1,58 @@
+-- Steps of the loop that reads a tape line by line.
+use Rattle.std.proofs.Common.{◌≡◌, ℕ, ◌+◌, ◌≤◌, List, [], ◌∷◌, ◌++◌, length, drop, Option, Some, None, Result, Ok, Err, true, false, refl, sym, ap, ◌∙◌, append_assoc, append-nil}
+use Rattle.std.proofs.lemmas.List.{drop_all}
+use Rattle.plain_text.specs.Lines.{lines_of, is_passed}
+use Rattle.agent_link.specs.declared.tape.Item.{Item}
+use Rattle.agent_link.specs.declared.tape.Stage.{Stage}
+use Rattle.agent_link.specs.declared.tape.Stage.TheVariants.{Accepted}
+use Rattle.agent_link.specs.Tape.{tape_from, item_in, stage_behind, end_in, onto_items, item_or_line}
+
+-- the items that were read, and behind them those of the rest
+abbrev pub behind : List Item → Result (List Item) ℕ → Result (List Item) ℕ
+behind items (Ok rest) = Ok (items ++ rest)
+behind items (Err n) = Err n
+
+behind_onto : (items : List Item) (item : Item) (rest : Result (List Item) ℕ) → behind (items ++ item ∷ []) rest ≡ behind items (onto_items item rest)
+behind_onto items item (Ok rest) = ap Ok (append_assoc items (item ∷ []) rest)
+behind_onto items item (Err n) = refl
+
+of_passed : (stage : Stage) (n : ℕ) (line : List ℕ) (lines : List (List ℕ)) → is_passed line ≡ true → tape_from stage n (line ∷ lines) ≡ tape_from stage (n + 1) lines
+unfolding tape_from
+of_passed stage n line lines passed = rw passed refl
+
+of_read : (stage : Stage) (n : ℕ) (line : List ℕ) (lines : List (List ℕ)) (item : Item) → is_passed line ≡ false → item_in stage line ≡ Some item
+    → tape_from stage n (line ∷ lines) ≡ onto_items item (tape_from (stage_behind stage) (n + 1) lines)
+unfolding tape_from
+of_read stage n line lines item passed read = rw (passed, read) refl
+
+of_refused : (stage : Stage) (n : ℕ) (line : List ℕ) (lines : List (List ℕ)) → is_passed line ≡ false → item_in stage line ≡ None → tape_from stage n (line ∷ lines) ≡ Err n
+unfolding tape_from
+of_refused stage n line lines passed read = rw (passed, read) refl
+
+of_end : (stage : Stage) (n : ℕ) (rest : List ℕ) → rest ≡ [] → tape_from stage n (lines_of rest) ≡ end_in stage n
+unfolding tape_from lines_of
+of_end stage n rest e = ap (λ r. tape_from stage n (lines_of r)) e
+
+pub line_passed : (items : List Item) (stage : Stage) (n : ℕ) (rest next line : List ℕ) (all : Result (List Item) ℕ) → behind items (tape_from stage n (lines_of rest)) ≡ all
+    → lines_of rest ≡ line ∷ lines_of next → is_passed line ≡ true → behind items (tape_from stage (n + 1) (lines_of next)) ≡ all
+line_passed items stage n rest next line all h lines passed =
+    ap (behind items) (sym (of_passed stage n line (lines_of next) passed)) ∙ ap (λ ls. behind items (tape_from stage n ls)) (sym lines) ∙ h
+
+pub line_read : (items : List Item) (item : Item) (stage : Stage) (n : ℕ) (rest next line : List ℕ) (all : Result (List Item) ℕ) → behind items (tape_from stage n (lines_of rest)) ≡ all
+    → lines_of rest ≡ line ∷ lines_of next → is_passed line ≡ false → item_in stage line ≡ Some item → behind (items ++ item ∷ []) (tape_from (stage_behind stage) (n + 1) (lines_of next)) ≡ all
+line_read items item stage n rest next line all h lines passed read =
+    behind_onto items item (tape_from (stage_behind stage) (n + 1) (lines_of next)) ∙ ap (behind items) (sym (of_read stage n line (lines_of next) item passed read))
+    ∙ ap (λ ls. behind items (tape_from stage n ls)) (sym lines) ∙ h
+
+pub line_refused : (items : List Item) (stage : Stage) (n : ℕ) (rest next line : List ℕ) (all : Result (List Item) ℕ) → behind items (tape_from stage n (lines_of rest)) ≡ all
+    → lines_of rest ≡ line ∷ lines_of next → is_passed line ≡ false → item_in stage line ≡ None → all ≡ Err n
+line_refused items stage n rest next line all h lines passed read =
+    sym h ∙ ap (λ ls. behind items (tape_from stage n ls)) lines ∙ ap (behind items) (of_refused stage n line (lines_of next) passed read)
+
+-- the end of an accepting tape
+pub tape_end : (items : List Item) (n at : ℕ) (text : List ℕ) (all : Result (List Item) ℕ) → behind items (tape_from Accepted n (lines_of (drop at text))) ≡ all → length text ≤ at → all ≡ Ok items
+tape_end items n at text all h end = sym h ∙ ap (behind items) (of_end Accepted n (drop at text) (drop_all at text end)) ∙ ap Ok (append-nil items)
+
+pub tape_short : (items : List Item) (stage : Stage) (n at : ℕ) (text : List ℕ) (all : Result (List Item) ℕ) → behind items (tape_from stage n (lines_of (drop at text))) ≡ all → length text ≤ at
+    → end_in stage n ≡ Err n → all ≡ Err n
+tape_short items stage n at text all h end short = sym h ∙ ap (behind items) (of_end stage n (drop at text) (drop_all at text end) ∙ short)

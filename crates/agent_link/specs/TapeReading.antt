@@ -1,0 +1,11 @@
+-- What a reader's answer says of the tape that the definition reads.
+use Rattle.std.specs.Prelude.{◌≡◌, ℕ, List, Result, Ok, Err}
+use Rattle.agent_link.specs.declared.tape.Item.{Item}
+use Rattle.agent_link.specs.declared.tape.TapeFault.{TapeFault}
+use Rattle.agent_link.specs.declared.tape.TapeFault.TheVariants as faults
+
+-- The answer is the reading, and Line exactly where it is a bad line. Want of memory says nothing.
+abbrev pub Tells : Result (List Item) TapeFault → Result (List Item) ℕ → Type 0
+Tells (Ok tape) read = read ≡ Ok tape
+Tells (Err (faults.Line n)) read = read ≡ Err n
+Tells (Err faults.NoMemory) read = Unit {0}

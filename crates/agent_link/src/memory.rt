@@ -1,0 +1,6 @@
+//! The outside over memory.
+
+pub mod plan;
+pub mod sink;
+pub mod source;
+pub mod tape_link;
