@@ -29,5 +29,5 @@ pub type Resend = Seq<Packet>;
 /// Want of memory.
 pub type NoMemory = std::alloc::AllocError;
 
-#[cfg(test)]
-mod tests;
+
+
