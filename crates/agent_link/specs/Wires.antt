@@ -5,11 +5,11 @@ use Rattle.agent_link.specs.declared.fault.Fault.{Fault}
 use Rattle.agent_link.specs.declared.link.Heard.{Heard}
 use Rattle.agent_link.specs.declared.link.Heard.TheVariants as heard
 
--- these bytes behind those of the present connection
-abbrev pub onto_last : List (List ℕ) → List ℕ → List (List ℕ)
-onto_last [] bytes = []
-onto_last (wire ∷ []) bytes = (wire ++ bytes) ∷ []
-onto_last (wire ∷ next ∷ wires) bytes = wire ∷ onto_last (next ∷ wires) bytes
+-- these behind those of the present connection
+abbrev pub onto_last : {X : Type 0} → List (List X) → List X → List (List X)
+onto_last [] more = []
+onto_last (wire ∷ []) more = (wire ++ more) ∷ []
+onto_last (wire ∷ next ∷ wires) more = wire ∷ onto_last (next ∷ wires) more
 
 -- An opening that succeeded begins the next connection.
 abbrev pub after_open : Option (List (List ℕ)) → Result (Unit {0}) Fault → Option (List (List ℕ))

@@ -8,3 +8,9 @@ abbrev pub Gives : {X Y : Type 0} → (X → Y) → Result X Refusal → Option 
 Gives view (Ok x) read = read ≡ Some (view x)
 Gives view (Err refusals.Bad) read = read ≡ None
 Gives view (Err refusals.NoMemory) read = Unit {0}
+
+-- what a reading leads to, where there is one
+infixl 10 ◌>>=◌
+abbrev pub ◌>>=◌ : {A B : Type 0} → Option A → (A → Option B) → Option B
+None >>= next = None
+(Some x) >>= next = next x

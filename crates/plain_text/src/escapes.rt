@@ -1,6 +1,6 @@
 //! Texts as one word, read back from their escapes.
 
-ghost use Rattle.std.specs.Prelude.{◌≡◌, ◌<◌, length, IfSome, IsNone, None};
+ghost use Rattle.std.specs.Prelude.{◌≡◌, ◌<◌, ◌≤◌, length, take, slice_index, false, IfSome, IsNone, None};
 ghost use Rattle.plain_text.specs.Escapes as escapes;
 ghost use Rattle.plain_text.specs.Reading.{Gives};
 
@@ -20,6 +20,35 @@ pub fn text_of(alloc: Global, word: &[u8]) -> Result<Text, Refusal>
         Some(text) => Ok(text),
         None => Err(Refusal::Bad),
     }
+}
+
+/// How many bytes at the front stand for themselves.
+#[tactic(auto, using(crate::proofs::Escaping::run_on, crate::proofs::Escaping::run_none))]
+pub fn plain_len(text: &[u8]) -> usize
+    ensures within { result ≤ length text.now }
+    ensures plain { escapes.escaped (take result text.now) ≡ take result text.now }
+    ensures all { result < length text.now → escapes.is_plain (slice_index text.now result) ≡ false }
+{
+    let mut run = 0;
+    while run < text.len() && is_plain(text[run]) {
+        run += 1;
+    }
+    run
+}
+
+/// How a byte is written that doesn't stand for itself.
+pub fn escape(byte: u8) -> [u8; 3]
+    requires { escapes.is_plain byte ≡ false }
+    ensures { result ≡ escapes.escaped_byte byte }
+{
+    [b'%', digit_of(byte / 16), digit_of(byte % 16)]
+}
+
+fn digit_of(value: u8) -> u8
+    requires { value < 16 }
+    ensures { result ≡ escapes.digit_of value }
+{
+    if value < 10 { b'0' + value } else { b'A' - 10 + value }
 }
 
 fn bytes_of(alloc: Global, word: &[u8]) -> Result<Vec<u8>, Refusal>

@@ -7,7 +7,7 @@ mod payloads;
 mod refusal;
 mod words;
 
-pub use escapes::text_of;
+pub use escapes::{escape, plain_len, text_of};
 pub use lines::{is_passed, line_at};
 pub use payloads::payload_of;
 pub use refusal::Refusal;

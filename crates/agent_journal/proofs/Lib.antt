@@ -1,0 +1,4 @@
+pub mod Utf8
+pub mod Chains
+pub mod ScriptLoops
+pub mod Pieces

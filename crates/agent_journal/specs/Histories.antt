@@ -1,0 +1,48 @@
+-- Which journals are histories of the sequential agent.
+use Rattle.std.specs.Prelude.{◌≡◌, ℕ, ◌<◌, true, List, [], ◌∷◌, reverse, Option, Some, None}
+use Rattle.std.specs.Option.{option_map}
+use Rattle.agent_journal.specs.declared.entry.Cause.{Cause}
+use Rattle.agent_journal.specs.declared.entry.Entry.{Entry}
+use Rattle.agent_journal.specs.declared.effect.Effect.{Effect}
+use Rattle.agent_journal.specs.declared.setup.Phase.{Phase}
+use Rattle.agent_journal.specs.declared.setup.Phase.TheVariants.{Down, Off}
+use Rattle.agent_journal.specs.declared.setup.Setup.{Setup}
+use Rattle.agent_journal.specs.Readings.{Readings, read_at, has_left}
+use Rattle.agent_journal.specs.Rows.{Row, row_of}
+
+abbrev pub phase_by : Option Row → Phase → Phase
+phase_by None phase = phase
+phase_by (Some row) phase = row.phase
+
+-- The phase behind a past: that of its newest entry's row. A journal begins in Down.
+abbrev pub phase_of : Setup → List Entry → Phase
+phase_of s [] = Down
+phase_of s (e ∷ past) = phase_by (row_of s (read_at (phase_of s past) past) e.at e.cause) (phase_of s past)
+
+-- all readings of a past
+abbrev pub readings : Setup → List Entry → Readings
+readings s past = read_at (phase_of s past) past
+
+-- The row of a cause after a past, where it has one.
+abbrev pub row : Setup → List Entry → ℕ → Cause → Option Row
+row s past at cause = row_of s (readings s past) at cause
+
+abbrev pub effects_of : Option Row → Option (List Effect)
+effects_of r = option_map (λ row. row.effects) r
+
+-- Each entry has a row after the entries before it, and that row's effects.
+abbrev pub IsLegalPast : Setup → List Entry → Type 0
+IsLegalPast s [] = Unit {0}
+IsLegalPast s (e ∷ past) = (effects_of (row s past e.at e.cause) ≡ Some e.effects) × IsLegalPast s past
+
+-- A journal is legal: its past is.
+abbrev pub IsLegal : Setup → List Entry → Type 0
+IsLegal s journal = IsLegalPast s (reverse journal)
+
+-- The agent has ended, and the Leave of each task was taken.
+pub record IsWholePast (s : Setup) (past : List Entry) : Type 0 where
+  pub ended : phase_of s past ≡ Off
+  pub left : (t : ℕ) → t < s.tasks → has_left t past ≡ true
+
+abbrev pub IsWhole : Setup → List Entry → Type 0
+IsWhole s journal = IsWholePast s (reverse journal)

@@ -1,0 +1,71 @@
+-- What a journal says of one task, in the order of its entries.
+use Rattle.std.specs.Prelude.{◌≡◌, ℕ, ◌+◌, ◌<◌, ◌≤◌, Bool, true, false, ◌&&◌, not, ◌==◌, List, [], ◌∷◌, ◌++◌, if◌then◌else◌, nat_lt, count_by}
+use Rattle.agent_journal.specs.declared.request.Request.{Request}
+use Rattle.agent_journal.specs.declared.entry.Cause.{Cause}
+use Rattle.agent_journal.specs.declared.entry.Cause.TheVariants as c
+use Rattle.agent_journal.specs.declared.entry.Entry.{Entry}
+use Rattle.agent_journal.specs.declared.effect.Effect.{Effect}
+use Rattle.agent_journal.specs.declared.effect.Effect.TheVariants as f
+use Rattle.agent_journal.specs.declared.outcome.Outcome.{Outcome}
+use Rattle.agent_journal.specs.Readings.{is_leave, completes}
+
+abbrev pub request_in : ℕ → Cause → List Request
+request_in t c.Opened = []
+request_in t (c.Take task seq request) = if t == task then request ∷ [] else []
+request_in t (c.Arrived packet) = []
+request_in t (c.Broke why) = []
+request_in t c.Tick = []
+request_in t c.GaveUp = []
+request_in t c.Finish = []
+
+-- the requests of task t that were taken, Leave included
+abbrev pub requests_of : ℕ → List Entry → List Request
+requests_of t [] = []
+requests_of t (e ∷ past) = requests_of t past ++ request_in t e.cause
+
+-- how many of them are commands: all but Leave
+abbrev pub commands_by : ℕ → Cause → ℕ
+commands_by t c.Opened = 0
+commands_by t (c.Take task seq request) = if t == task && not (is_leave request) then 1 else 0
+commands_by t (c.Arrived packet) = 0
+commands_by t (c.Broke why) = 0
+commands_by t c.Tick = 0
+commands_by t c.GaveUp = 0
+commands_by t c.Finish = 0
+
+abbrev pub commands_of : ℕ → List Entry → ℕ
+commands_of t [] = 0
+commands_of t (e ∷ past) = commands_of t past + commands_by t e.cause
+
+abbrev pub is_done : ℕ → Effect → Bool
+is_done t (f.Send packet) = false
+is_done t (f.Done task seq outcome) = t == task
+is_done t (f.Pass task message) = false
+is_done t (f.Closed task) = false
+
+-- how many commands of task t were completed
+abbrev pub completed_of : ℕ → List Entry → ℕ
+completed_of t [] = 0
+completed_of t (e ∷ past) = completed_of t past + count_by (is_done t) e.effects
+
+abbrev pub is_pass : ℕ → Effect → Bool
+is_pass t (f.Send packet) = false
+is_pass t (f.Done task seq outcome) = false
+is_pass t (f.Pass task message) = t == task
+is_pass t (f.Closed task) = false
+
+-- how many messages were passed to task t
+abbrev pub messages_of : ℕ → List Entry → ℕ
+messages_of t [] = 0
+messages_of t (e ∷ past) = messages_of t past + count_by (is_pass t) e.effects
+
+-- how many completions command seq of task t has
+abbrev pub completions_of : ℕ → ℕ → List Entry → ℕ
+completions_of t seq [] = 0
+completions_of t seq (e ∷ past) = completions_of t seq past + count_by (completes t seq) e.effects
+
+-- Each command that was taken has exactly one completion, and what wasn't taken has none. This holds at each moment, so no
+-- completion comes before its Take.
+abbrev pub CompletesOnce : List Entry → Type 0
+CompletesOnce [] = Unit {0}
+CompletesOnce (e ∷ past) = ((t seq : ℕ) → completions_of t seq (e ∷ past) ≡ (if nat_lt seq (commands_of t (e ∷ past)) then 1 else 0)) × CompletesOnce past

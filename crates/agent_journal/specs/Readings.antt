@@ -1,0 +1,199 @@
+-- What the agent's table reads off a journal. The past of a journal is its entries with the newest first. Each reading
+-- is a count or a filter of the past; only the phase is read off the table itself (Histories).
+use Rattle.std.specs.Prelude.{ℕ, ◌+◌, Bool, true, false, ◌&&◌, ◌||◌, not, ◌==◌, List, [], ◌∷◌, ◌++◌, Option, Some, None, if◌then◌else◌, filter}
+use Rattle.std.specs.List.{list_any}
+use Rattle.mqtt_packet.specs.declared.qos.Qos.TheVariants.{AtMostOnce, AtLeastOnce, ExactlyOnce}
+use Rattle.mqtt_packet.specs.declared.packet.Packet.{Packet}
+use Rattle.mqtt_packet.specs.declared.packet.Packet.TheVariants as p
+use Rattle.mqtt_packet.specs.declared.qos.Qos.{Qos}
+use Rattle.agent_journal.specs.declared.request.Request.{Request}
+use Rattle.agent_journal.specs.declared.request.Request.TheVariants as requests
+use Rattle.agent_journal.specs.declared.entry.Cause.{Cause}
+use Rattle.agent_journal.specs.declared.entry.Cause.TheVariants as c
+use Rattle.agent_journal.specs.declared.entry.Entry.{Entry}
+use Rattle.agent_journal.specs.declared.effect.Effect.{Effect}
+use Rattle.agent_journal.specs.declared.effect.Effect.TheVariants as f
+use Rattle.agent_journal.specs.declared.setup.Phase.{Phase}
+
+-- An open command: the identifier of its packet, its task and number, and what it asks.
+pub record Pending : Type 0 where
+  pub id : ℕ
+  pub task : ℕ
+  pub seq : ℕ
+  pub request : Request
+
+-- All readings of one moment, as the table takes them.
+pub record Readings : Type 0 where
+  pub phase : Phase
+  -- the time of the newest entry
+  pub last_time : ℕ
+  -- how many requests of each task were taken, Leave included
+  pub takes : ℕ → ℕ
+  -- whether the Leave of a task was taken
+  pub left : ℕ → Bool
+  -- how many connections or openings broke since the last accepted CONNACK
+  pub breaks : ℕ
+  -- how many CONNACKs accepted
+  pub accepted : ℕ
+  -- the open commands, in the order in which they were taken
+  pub pending : List Pending
+
+abbrev pub last_time_of : List Entry → ℕ
+last_time_of [] = 0
+last_time_of (e ∷ past) = e.at
+
+-- whether a cause is a Take of task t
+abbrev pub takes_by : ℕ → Cause → Bool
+takes_by t c.Opened = false
+takes_by t (c.Take task seq request) = t == task
+takes_by t (c.Arrived packet) = false
+takes_by t (c.Broke why) = false
+takes_by t c.Tick = false
+takes_by t c.GaveUp = false
+takes_by t c.Finish = false
+
+abbrev pub takes_of : ℕ → List Entry → ℕ
+takes_of t [] = 0
+takes_of t (e ∷ past) = if takes_by t e.cause then takes_of t past + 1 else takes_of t past
+
+abbrev pub is_leave : Request → Bool
+is_leave (requests.Publish qos topic payload) = false
+is_leave (requests.Subscribe asks) = false
+is_leave (requests.Unsubscribe filters) = false
+is_leave requests.Ping = false
+is_leave requests.Disconnect = false
+is_leave requests.Terminate = false
+is_leave requests.Leave = true
+
+-- whether a cause is the Leave of task t
+abbrev pub leaves_by : ℕ → Cause → Bool
+leaves_by t c.Opened = false
+leaves_by t (c.Take task seq request) = t == task && is_leave request
+leaves_by t (c.Arrived packet) = false
+leaves_by t (c.Broke why) = false
+leaves_by t c.Tick = false
+leaves_by t c.GaveUp = false
+leaves_by t c.Finish = false
+
+abbrev pub has_left : ℕ → List Entry → Bool
+has_left t [] = false
+has_left t (e ∷ past) = leaves_by t e.cause || has_left t past
+
+abbrev pub is_accepting : Packet → Bool
+is_accepting (p.Connect clean keep_alive client will user password) = false
+is_accepting (p.ConnAck present code) = code == 0
+is_accepting (p.Publish dup qos retain topic id payload) = false
+is_accepting (p.PubAck id) = false
+is_accepting (p.PubRec id) = false
+is_accepting (p.PubRel id) = false
+is_accepting (p.PubComp id) = false
+is_accepting (p.Subscribe id asks) = false
+is_accepting (p.SubAck id codes) = false
+is_accepting (p.Unsubscribe id filters) = false
+is_accepting (p.UnsubAck id) = false
+is_accepting p.PingReq = false
+is_accepting p.PingResp = false
+is_accepting p.Disconnect = false
+
+-- whether a cause is an accepted CONNACK: one of code 0
+abbrev pub accepts : Cause → Bool
+accepts c.Opened = false
+accepts (c.Take task seq request) = false
+accepts (c.Arrived packet) = is_accepting packet
+accepts (c.Broke why) = false
+accepts c.Tick = false
+accepts c.GaveUp = false
+accepts c.Finish = false
+
+abbrev pub accepted_of : List Entry → ℕ
+accepted_of [] = 0
+accepted_of (e ∷ past) = if accepts e.cause then accepted_of past + 1 else accepted_of past
+
+abbrev pub is_break : Cause → Bool
+is_break c.Opened = false
+is_break (c.Take task seq request) = false
+is_break (c.Arrived packet) = false
+is_break (c.Broke why) = true
+is_break c.Tick = false
+is_break c.GaveUp = false
+is_break c.Finish = false
+
+abbrev pub breaks_of : List Entry → ℕ
+breaks_of [] = 0
+breaks_of (e ∷ past) = if accepts e.cause then 0 else if is_break e.cause then breaks_of past + 1 else breaks_of past
+
+-- the identifier of a publish above quality of service 0
+abbrev pub id_at : Qos → ℕ → Option ℕ
+id_at AtMostOnce id = None
+id_at AtLeastOnce id = Some id
+id_at ExactlyOnce id = Some id
+
+-- the identifier of a command's own packet, which an acknowledgement will name
+abbrev pub command_id : Packet → Option ℕ
+command_id (p.Connect clean keep_alive client will user password) = None
+command_id (p.ConnAck present code) = None
+command_id (p.Publish dup qos retain topic id payload) = id_at qos id
+command_id (p.PubAck id) = None
+command_id (p.PubRec id) = None
+command_id (p.PubRel id) = None
+command_id (p.PubComp id) = None
+command_id (p.Subscribe id asks) = Some id
+command_id (p.SubAck id codes) = None
+command_id (p.Unsubscribe id filters) = Some id
+command_id (p.UnsubAck id) = None
+command_id p.PingReq = None
+command_id p.PingResp = None
+command_id p.Disconnect = None
+
+abbrev pub or_else : Option ℕ → Option ℕ → Option ℕ
+or_else None other = other
+or_else (Some id) other = Some id
+
+-- the identifier that these effects send for a command
+abbrev pub sent_id : List Effect → Option ℕ
+sent_id [] = None
+sent_id (f.Send packet ∷ effects) = or_else (command_id packet) (sent_id effects)
+sent_id (f.Done task seq outcome ∷ effects) = sent_id effects
+sent_id (f.Pass task message ∷ effects) = sent_id effects
+sent_id (f.Closed task ∷ effects) = sent_id effects
+
+abbrev pub opened_by : ℕ → ℕ → Request → Option ℕ → List Pending
+opened_by task seq request None = []
+opened_by task seq request (Some id) = record { id = id; task = task; seq = seq; request = request } ∷ []
+
+-- the command that an entry opens: a Take with a Send of its own packet
+abbrev pub opens : Cause → List Effect → List Pending
+opens c.Opened effects = []
+opens (c.Take task seq request) effects = opened_by task seq request (sent_id effects)
+opens (c.Arrived packet) effects = []
+opens (c.Broke why) effects = []
+opens c.Tick effects = []
+opens c.GaveUp effects = []
+opens c.Finish effects = []
+
+-- whether an effect completes command seq of a task
+abbrev pub completes : ℕ → ℕ → Effect → Bool
+completes task seq (f.Send packet) = false
+completes task seq (f.Done t s outcome) = t == task && s == seq
+completes task seq (f.Pass t message) = false
+completes task seq (f.Closed t) = false
+
+abbrev pub stays_open : List Effect → Pending → Bool
+stays_open effects command = not (list_any (completes command.task command.seq) effects)
+
+-- a Take with a Send of its own packet and no Done yet
+abbrev pub pending_of : List Entry → List Pending
+pending_of [] = []
+pending_of (e ∷ past) = filter (stays_open e.effects) (pending_of past ++ opens e.cause e.effects)
+
+-- the readings of a past whose phase is known
+abbrev pub read_at : Phase → List Entry → Readings
+read_at phase past = record {
+  phase = phase;
+  last_time = last_time_of past;
+  takes = λ t. takes_of t past;
+  left = λ t. has_left t past;
+  breaks = breaks_of past;
+  accepted = accepted_of past;
+  pending = pending_of past;
+}

@@ -1,0 +1,27 @@
+-- What a reader's answer says of the script that the definition reads.
+use Rattle.std.specs.Prelude.{◌≡◌, ℕ, ◌+◌, ◌≤◌, List, length, drop, Result, Ok, Err}
+use Rattle.plain_text.specs.Lines.{lines_of}
+use Rattle.agent_journal.specs.declared.script.Line.{Line}
+use Rattle.agent_journal.specs.declared.script.Script.{Script}
+use Rattle.agent_journal.specs.declared.script.ScriptFault.{ScriptFault}
+use Rattle.agent_journal.specs.declared.script.ScriptFault.TheVariants as faults
+use Rattle.agent_journal.specs.Scripts.{script_of, script_from, script_with, lines_from}
+
+-- The answer is the script and the place of the lines behind it, and Line exactly where that line is the first bad one. Want
+-- of memory says nothing.
+abbrev pub Tells : List ℕ → Result (Script × ℕ) ScriptFault → Type 0
+Tells text (Ok x) = (script_of text ≡ Ok (x.0, lines_of (drop x.1 text))) × (x.1 ≤ length text)
+Tells text (Err (faults.Line number)) = script_of text ≡ Err number
+Tells text (Err faults.NoMemory) = Unit {0}
+
+-- The same of the lines from a place on.
+abbrev pub TellsLines : List ℕ → ℕ → ℕ → Result (List Line × ℕ) ScriptFault → Type 0
+TellsLines text first from (Ok x) = (lines_from first (lines_of (drop from text)) ≡ Ok (x.0, lines_of (drop x.1 text))) × (x.1 ≤ length text)
+TellsLines text first from (Err (faults.Line number)) = lines_from first (lines_of (drop from text)) ≡ Err number
+TellsLines text first from (Err faults.NoMemory) = Unit {0}
+
+-- How many tasks there are, and the number and the place of the line behind that.
+abbrev pub TellsTasks : List ℕ → Result (ℕ × ℕ × ℕ) ScriptFault → Type 0
+TellsTasks text (Ok x) = (script_of text ≡ script_with x.0 (lines_from x.1 (lines_of (drop x.2 text)))) × (x.1 ≤ x.2 + 1) × (x.2 ≤ length text)
+TellsTasks text (Err (faults.Line number)) = script_of text ≡ Err number
+TellsTasks text (Err faults.NoMemory) = ⊥

@@ -1,0 +1,90 @@
+-- How a journal is tied to the link and the clock of its run.
+use Rattle.std.specs.Prelude.{◌≡◌, ℕ, ◌+◌, ◌<◌, ◌≤◌, ◌⊎◌, Bool, true, false, List, [], ◌∷◌, ◌++◌, length, take, map, if◌then◌else◌, Contains}
+use Rattle.std.specs.List.{flat_map}
+use Rattle.mqtt_packet.specs.declared.packet.Packet.{Packet}
+use Rattle.mqtt_packet.specs.Spelling.{spelling}
+use Rattle.agent_link.specs.Wires.{onto_last}
+use Rattle.agent_journal.specs.declared.entry.Cause.{Cause}
+use Rattle.agent_journal.specs.declared.entry.Cause.TheVariants as c
+use Rattle.agent_journal.specs.declared.entry.Why.TheVariants.{Fault}
+use Rattle.agent_journal.specs.declared.entry.Entry.{Entry}
+use Rattle.agent_journal.specs.declared.effect.Effect.{Effect}
+use Rattle.agent_journal.specs.declared.effect.Effect.TheVariants as f
+
+abbrev pub is_opened : Cause → Bool
+is_opened c.Opened = true
+is_opened (c.Take task seq request) = false
+is_opened (c.Arrived packet) = false
+is_opened (c.Broke why) = false
+is_opened c.Tick = false
+is_opened c.GaveUp = false
+is_opened c.Finish = false
+
+-- The entries of each connection, which begins with its Opened. Connections are counted from 0, and their entries stand in
+-- order of time.
+abbrev pub connections : List Entry → List (List Entry)
+connections [] = []
+connections (e ∷ past) = if is_opened e.cause then connections past ++ (e ∷ []) ∷ [] else onto_last (connections past) (e ∷ [])
+
+abbrev pub packet_in : Effect → List Packet
+packet_in (f.Send packet) = packet ∷ []
+packet_in (f.Done task seq outcome) = []
+packet_in (f.Pass task message) = []
+packet_in (f.Closed task) = []
+
+abbrev pub sends : Entry → List Packet
+sends e = flat_map packet_in e.effects
+
+abbrev pub arrives : Cause → List Packet
+arrives c.Opened = []
+arrives (c.Take task seq request) = []
+arrives (c.Arrived packet) = packet ∷ []
+arrives (c.Broke why) = []
+arrives c.Tick = []
+arrives c.GaveUp = []
+arrives c.Finish = []
+
+-- the bytes that an entry sends, and those of the packet that arrived with it
+abbrev pub sent_by : Entry → List ℕ
+sent_by e = flat_map spelling (sends e)
+
+abbrev pub heard_by : Entry → List ℕ
+heard_by e = flat_map spelling (arrives e.cause)
+
+abbrev pub sent : List Entry → List ℕ
+sent entries = flat_map sent_by entries
+
+abbrev pub heard : List Entry → List ℕ
+heard entries = flat_map heard_by entries
+
+-- A Broke Fault stands directly behind the last entry that sends, and bytes of that entry's sends are missing.
+abbrev pub IsCutShort : List Entry → List ℕ → Type 0
+IsCutShort entries taken =
+    (before : List Entry) × (last : Entry) × (broke : Entry) × (after : List Entry) × (entries ≡ before ++ last ∷ broke ∷ after) × (broke.cause ≡ c.Broke Fault)
+    × (flat_map sends (broke ∷ after) ≡ []) × (k : ℕ) × (k < length (sent_by last)) × (taken ≡ sent before ++ take k (sent_by last))
+
+-- What a connection took is the spelling of what its entries send, or a front of it where the connection broke.
+abbrev pub Wired : List Entry → List ℕ → Type 0
+Wired entries taken = (taken ≡ sent entries) ⊎ IsCutShort entries taken
+
+-- What a connection gave is the spelling of the packets that arrived.
+abbrev pub Heard : List Entry → List ℕ → Type 0
+Heard entries given = given ≡ heard entries
+
+-- as many connections as byte lists, and each is tied to its own
+abbrev pub EachTied : (List Entry → List ℕ → Type 0) → List (List Entry) → List (List ℕ) → Type 0
+EachTied Tie [] [] = Unit {0}
+EachTied Tie [] (bytes ∷ wires) = ⊥
+EachTied Tie (entries ∷ others) [] = ⊥
+EachTied Tie (entries ∷ others) (bytes ∷ wires) = Tie entries bytes × EachTied Tie others wires
+
+-- each entry's time is one of these readings
+abbrev pub AreReadings : List ℕ → List Entry → Type 0
+AreReadings readings [] = Unit {0}
+AreReadings readings (e ∷ past) = Contains readings e.at × AreReadings readings past
+
+-- The journal whose past this is, over connections that took and gave these bytes and a clock that was read so.
+pub record IsTied (past : List Entry) (taken given : List (List ℕ)) (readings : List ℕ) : Type 0 where
+  pub wired : EachTied Wired (connections past) taken
+  pub heard_all : EachTied Heard (connections past) given
+  pub times : AreReadings readings past

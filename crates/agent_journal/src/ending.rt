@@ -1,0 +1,66 @@
+//! How a run of the agent ends.
+
+ghost use Rattle.std.specs.Prelude.{◌≡◌};
+ghost use Rattle.agent_journal.specs.Endings as endings;
+
+use mqtt_packet::Packet;
+
+use crate::entry::Cause;
+use crate::setup::Phase;
+
+/// How a run of the agent ended.
+#[derive(Clone, Copy, Debug, PartialEq, Eq)]
+pub enum Ending {
+    /// All was done, or a task asked for the end.
+    Done,
+    /// Connections broke too often.
+    GaveUp,
+    /// The broker refused the connection, with a code above 0.
+    Refused { code: u8 },
+    /// The broker's bytes were no packets, or a packet that may not come.
+    Bytes,
+    /// The broker kept a session of this client that the agent doesn't know.
+    Held,
+}
+
+impl Ending {
+    /// How a run ends by a cause that led from this phase to the phase Off.
+    pub fn by(phase: Phase, cause: &Cause) -> Ending
+        ensures { result ≡ endings.ending_by phase cause.now }
+    {
+        match cause {
+            Cause::Finish | Cause::Take { .. } | Cause::Opened | Cause::Tick => Ending::Done,
+            Cause::GaveUp => Ending::GaveUp,
+            Cause::Broke { .. } => Ending::Bytes,
+            Cause::Arrived { packet } => Ending::by_packet(phase, packet),
+        }
+    }
+
+    fn by_packet(phase: Phase, packet: &Packet) -> Ending
+        ensures { result ≡ endings.ending_by_packet phase packet.now }
+    {
+        match (phase, packet) {
+            (Phase::Opening, Packet::ConnAck { code, .. }) => {
+                if *code == 0 {
+                    Ending::Held
+                } else {
+                    Ending::Refused { code: *code }
+                }
+            }
+            _ => Ending::Bytes,
+        }
+    }
+
+    /// The exit status: 0, 3, 4, 5 or 6.
+    pub fn status(self) -> u8
+        ensures { result ≡ endings.status self }
+    {
+        match self {
+            Ending::Done => 0,
+            Ending::GaveUp => 3,
+            Ending::Refused { .. } => 4,
+            Ending::Bytes => 5,
+            Ending::Held => 6,
+        }
+    }
+}
