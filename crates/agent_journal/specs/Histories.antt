@@ -1,7 +1,9 @@
 -- Which journals are histories of the sequential agent.
-use Rattle.std.specs.Prelude.{◌≡◌, ℕ, ◌<◌, true, List, [], ◌∷◌, reverse, Option, Some, None}
+use Rattle.std.specs.Prelude.{◌≡◌, ℕ, ◌<◌, true, List, [], ◌∷◌, reverse, Option, Some, None, is_some, if◌then◌else◌}
 use Rattle.std.specs.Option.{option_map}
 use Rattle.agent_journal.specs.declared.entry.Cause.{Cause}
+use Rattle.agent_journal.specs.declared.entry.Cause.TheVariants as c
+use Rattle.agent_journal.specs.declared.entry.Why.TheVariants.{KeepAlive, InFull}
 use Rattle.agent_journal.specs.declared.entry.Entry.{Entry}
 use Rattle.agent_journal.specs.declared.effect.Effect.{Effect}
 use Rattle.agent_journal.specs.declared.setup.Phase.{Phase}
@@ -29,6 +31,17 @@ row s past at cause = row_of s (readings s past) at cause
 
 abbrev pub effects_of : Option Row → Option (List Effect)
 effects_of r = option_map (λ row. row.effects) r
+
+-- What is due, the first of these that has a row.
+abbrev pub due_causes : List Cause
+due_causes = c.Finish ∷ c.Broke KeepAlive ∷ c.Tick ∷ c.GaveUp ∷ c.Broke InFull ∷ []
+
+abbrev pub first_row : Setup → Readings → ℕ → List Cause → Option Cause
+first_row s r at [] = None
+first_row s r at (cause ∷ causes) = if is_some (row_of s r at cause) then Some cause else first_row s r at causes
+
+abbrev pub due_by : Setup → Readings → ℕ → Option Cause
+due_by s r at = first_row s r at due_causes
 
 -- Each entry has a row after the entries before it, and that row's effects.
 abbrev pub IsLegalPast : Setup → List Entry → Type 0

@@ -9,4 +9,3 @@ pub mod Texts
 pub mod Scripts
 pub mod ScriptReading
 pub mod Parts
-

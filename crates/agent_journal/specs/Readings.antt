@@ -52,9 +52,12 @@ takes_by t c.Tick = false
 takes_by t c.GaveUp = false
 takes_by t c.Finish = false
 
+abbrev pub takes_behind : ℕ → Cause → ℕ → ℕ
+takes_behind t cause n = if takes_by t cause then n + 1 else n
+
 abbrev pub takes_of : ℕ → List Entry → ℕ
 takes_of t [] = 0
-takes_of t (e ∷ past) = if takes_by t e.cause then takes_of t past + 1 else takes_of t past
+takes_of t (e ∷ past) = takes_behind t e.cause (takes_of t past)
 
 abbrev pub is_leave : Request → Bool
 is_leave (requests.Publish qos topic payload) = false
@@ -105,9 +108,12 @@ accepts c.Tick = false
 accepts c.GaveUp = false
 accepts c.Finish = false
 
+abbrev pub accepted_behind : Cause → ℕ → ℕ
+accepted_behind cause n = if accepts cause then n + 1 else n
+
 abbrev pub accepted_of : List Entry → ℕ
 accepted_of [] = 0
-accepted_of (e ∷ past) = if accepts e.cause then accepted_of past + 1 else accepted_of past
+accepted_of (e ∷ past) = accepted_behind e.cause (accepted_of past)
 
 abbrev pub is_break : Cause → Bool
 is_break c.Opened = false
@@ -118,9 +124,12 @@ is_break c.Tick = false
 is_break c.GaveUp = false
 is_break c.Finish = false
 
+abbrev pub breaks_behind : Cause → ℕ → ℕ
+breaks_behind cause n = if accepts cause then 0 else if is_break cause then n + 1 else n
+
 abbrev pub breaks_of : List Entry → ℕ
 breaks_of [] = 0
-breaks_of (e ∷ past) = if accepts e.cause then 0 else if is_break e.cause then breaks_of past + 1 else breaks_of past
+breaks_of (e ∷ past) = breaks_behind e.cause (breaks_of past)
 
 -- the identifier of a publish above quality of service 0
 abbrev pub id_at : Qos → ℕ → Option ℕ

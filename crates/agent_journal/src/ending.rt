@@ -3,10 +3,9 @@
 ghost use Rattle.std.specs.Prelude.{◌≡◌};
 ghost use Rattle.agent_journal.specs.Endings as endings;
 
-use mqtt_packet::Packet;
-
 use crate::entry::Cause;
 use crate::setup::Phase;
+use mqtt_packet::Packet;
 
 /// How a run of the agent ended.
 #[derive(Clone, Copy, Debug, PartialEq, Eq)]

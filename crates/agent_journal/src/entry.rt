@@ -1,10 +1,9 @@
 //! The entries of a journal.
 
-use list_types::Seq;
-use mqtt_packet::Packet;
-
 use crate::effect::Effect;
 use crate::request::Request;
+use list_types::Seq;
+use mqtt_packet::Packet;
 
 /// Why a connection broke.
 #[derive(Clone, Copy, Debug, PartialEq, Eq)]
@@ -31,11 +30,19 @@ pub enum Cause {
     /// A connection was opened.
     Opened,
     /// Request `seq` of a task was taken, counted from 0, its Leave included.
-    Take { task: u32, seq: u32, request: Request },
+    Take {
+        task: u32,
+        seq: u32,
+        request: Request,
+    },
     /// A packet came.
-    Arrived { packet: Packet },
+    Arrived {
+        packet: Packet,
+    },
     /// The connection broke, or one couldn't be opened.
-    Broke { why: Why },
+    Broke {
+        why: Why,
+    },
     /// The keep alive asks for a PINGREQ.
     Tick,
     /// Connections broke too often.

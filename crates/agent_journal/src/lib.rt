@@ -16,15 +16,14 @@ mod write;
 pub use effect::Effect;
 pub use ending::Ending;
 pub use entry::{Cause, Entry, Why};
+use list_types::Seq;
 pub use message::Message;
 pub use outcome::Outcome;
+pub use parts::{Part, write_parts};
 pub use request::Request;
 pub use script::{Line, Script, ScriptFault, Step, read_script};
 pub use setup::{Phase, Setup};
-pub use parts::{Part, write_parts};
 pub use write::write_entry;
-
-use list_types::Seq;
 
 /// The effects of an entry, in order.
 pub type Effects = Seq<Effect>;

@@ -12,11 +12,19 @@ use std::alloc::{AllocError, Global};
 #[derive(Debug, Drop, PartialEq, Eq)]
 pub enum Request {
     /// To publish a message.
-    Publish { qos: Qos, topic: Text, payload: Blob },
+    Publish {
+        qos: Qos,
+        topic: Text,
+        payload: Blob,
+    },
     /// To subscribe, with 1 to 8 filters.
-    Subscribe { asks: Seq<Ask> },
+    Subscribe {
+        asks: Seq<Ask>,
+    },
     /// To unsubscribe, from 1 to 8 filters.
-    Unsubscribe { filters: Seq<Text> },
+    Unsubscribe {
+        filters: Seq<Text>,
+    },
     /// To send a PINGREQ.
     Ping,
     /// To close the connection and end the agent.
@@ -70,7 +78,11 @@ fn is_name_byte(byte: u8) -> bool
 impl Copied for Request {
     fn copy(&self, alloc: Global) -> Result<Request, AllocError> {
         Ok(match self {
-            Request::Publish { qos, topic, payload } => Request::Publish {
+            Request::Publish {
+                qos,
+                topic,
+                payload,
+            } => Request::Publish {
                 qos: *qos,
                 topic: topic.copy(alloc)?,
                 payload: payload.copy(alloc)?,

@@ -6,12 +6,11 @@ ghost use Rattle.plain_text.specs.Reading.{Gives};
 ghost use Rattle.agent_journal.specs.Scripts as scripts;
 ghost use Rattle.agent_journal.specs.ScriptReading.{Tells, TellsLines, TellsTasks};
 
+use crate::request::Request;
 use list_types::{Blob, Seq, Text};
 use mqtt_packet::Qos;
 use plain_text::{Refusal, is_passed, last_at, line_at, payload_of, text_of, word_at};
 use std::alloc::{AllocFailed, Global};
-
-use crate::request::Request;
 
 /// What a script's line asks of its task.
 #[derive(Debug, Drop, PartialEq, Eq)]
@@ -19,9 +18,17 @@ pub enum Step {
     /// To submit a request.
     Do(Request),
     /// To publish on a shadow topic of the thing.
-    Shadow { op: Text, name: Option<Text>, payload: Blob },
+    Shadow {
+        op: Text,
+        name: Option<Text>,
+        payload: Blob,
+    },
     /// To publish on a jobs topic of the thing.
-    Jobs { op: Text, job: Option<Text>, payload: Blob },
+    Jobs {
+        op: Text,
+        job: Option<Text>,
+        payload: Blob,
+    },
     /// To collect all tickets before it goes on.
     Wait,
     /// To take so many messages before it goes on.
@@ -102,7 +109,12 @@ fn read_tasks(text: &[u8]) -> Result<(u32, u64, usize), ScriptFault>
 /// The lines from `at` on, of which the first has this number, up to the line `tape`, and where the
 /// text behind it begins.
 #[tactic(auto, using(crate::proofs::ScriptLoops::line_passed, crate::proofs::ScriptLoops::tape_met, crate::proofs::ScriptLoops::line_read, crate::proofs::ScriptLoops::line_refused, crate::proofs::ScriptLoops::lines_end))]
-fn read_lines(alloc: Global, text: &[u8], first: u64, from: usize) -> Result<(Seq<Line>, usize), ScriptFault>
+fn read_lines(
+    alloc: Global,
+    text: &[u8],
+    first: u64,
+    from: usize,
+) -> Result<(Seq<Line>, usize), ScriptFault>
     requires small { first ≤ from + 1 }
     requires within { from ≤ length text.now }
     ensures { TellsLines text.now first from result }
@@ -137,7 +149,11 @@ fn is_tape(line: &[u8]) -> bool
 fn tasks_of(line: &[u8]) -> Option<u32>
     ensures { result ≡ scripts.tasks_of line.now }
 {
-    if line == b"tasks 1".as_slice() { Some(1) } else { None }
+    if line == b"tasks 1".as_slice() {
+        Some(1)
+    } else {
+        None
+    }
 }
 
 #[tactic(auto, unfolding(crate::specs::Scripts::line_of))]
@@ -188,7 +204,11 @@ fn publish_of(alloc: Global, line: &[u8]) -> Result<Request, Refusal>
         return Err(Refusal::Bad);
     };
     let payload = payload_of(alloc, word)?;
-    valid(Request::Publish { qos, topic, payload })
+    valid(Request::Publish {
+        qos,
+        topic,
+        payload,
+    })
 }
 
 fn qos_of(word: &[u8]) -> Result<Qos, Refusal>

@@ -8,15 +8,14 @@ ghost use Rattle.agent_link.specs.Writes.{Writes};
 ghost use Rattle.agent_journal.specs.Parts.{IsSoundEntry, IsSoundCause, IsSoundEffect};
 ghost use Rattle.agent_journal.specs.Texts as texts;
 
-use agent_link::{Fault, Sink, write_all};
-use list_types::{Blob, Text};
-use mqtt_packet::{Ask, Qos};
-
 use crate::effect::Effect;
 use crate::entry::{Cause, Entry, Why};
 use crate::outcome::Outcome;
 use crate::parts::{Part, write_parts};
 use crate::request::Request;
+use agent_link::{Fault, Sink, write_all};
+use list_types::{Blob, Text};
+use mqtt_packet::{Ask, Qos};
 
 /// Writes the lines of an entry: one for its cause and one for each effect. After a fault a front
 /// of them was written. It takes no memory of its own.
@@ -37,24 +36,73 @@ fn write_line<O: Sink>(out: &mut O, entry: &Entry) -> Result<(), Fault>
 {
     let at = entry.at;
     match &entry.cause {
-        Cause::Opened => write_parts(out, &[Part::Plain(b"@"), Part::Number(at), Part::Plain(b" opened\n")]),
+        Cause::Opened => write_parts(
+            out,
+            &[
+                Part::Plain(b"@"),
+                Part::Number(at),
+                Part::Plain(b" opened\n"),
+            ],
+        ),
         Cause::Take { task, seq, request } => write_take(out, at, *task, *seq, request),
-        Cause::Arrived { packet } => write_parts(out, &[Part::Plain(b"@"), Part::Number(at), Part::Plain(b" arrived "), Part::Spelled(packet), Part::Plain(b"\n")]),
+        Cause::Arrived { packet } => write_parts(
+            out,
+            &[
+                Part::Plain(b"@"),
+                Part::Number(at),
+                Part::Plain(b" arrived "),
+                Part::Spelled(packet),
+                Part::Plain(b"\n"),
+            ],
+        ),
         Cause::Broke { why } => write_broke(out, at, *why),
-        Cause::Tick => write_parts(out, &[Part::Plain(b"@"), Part::Number(at), Part::Plain(b" tick\n")]),
-        Cause::GaveUp => write_parts(out, &[Part::Plain(b"@"), Part::Number(at), Part::Plain(b" gaveup\n")]),
-        Cause::Finish => write_parts(out, &[Part::Plain(b"@"), Part::Number(at), Part::Plain(b" finish\n")]),
+        Cause::Tick => write_parts(
+            out,
+            &[Part::Plain(b"@"), Part::Number(at), Part::Plain(b" tick\n")],
+        ),
+        Cause::GaveUp => write_parts(
+            out,
+            &[
+                Part::Plain(b"@"),
+                Part::Number(at),
+                Part::Plain(b" gaveup\n"),
+            ],
+        ),
+        Cause::Finish => write_parts(
+            out,
+            &[
+                Part::Plain(b"@"),
+                Part::Number(at),
+                Part::Plain(b" finish\n"),
+            ],
+        ),
     }
 }
 
-fn write_take<O: Sink>(out: &mut O, at: u64, task: u32, seq: u32, request: &Request) -> Result<(), Fault>
+fn write_take<O: Sink>(
+    out: &mut O,
+    at: u64,
+    task: u32,
+    seq: u32,
+    request: &Request,
+) -> Result<(), Fault>
     ensures text { Writes (O.written out.old) (O.written out.new) result (texts.take_line at task seq request.now) }
     ensures cause { Counted (IsErrOf result Fault.Failed) (O.faults out.old) (O.faults out.new) }
 {
     match request {
-        Request::Publish { qos, topic, payload } => write_publish(out, at, task, seq, *qos, topic, payload),
+        Request::Publish {
+            qos,
+            topic,
+            payload,
+        } => write_publish(out, at, task, seq, *qos, topic, payload),
         Request::Subscribe { asks } => write_subscribe(out, at, task, seq, asks.as_slice()),
-        Request::Unsubscribe { filters } => write_unsubscribe(out, at, task, seq, filters.as_slice()),
+        Request::Unsubscribe { filters } => write_unsubscribe(
+            out,
+            at,
+            task,
+            seq,
+            filters.as_slice(),
+        ),
         Request::Ping => write_word(out, at, task, seq, b" ping\n"),
         Request::Disconnect => write_word(out, at, task, seq, b" disconnect\n"),
         Request::Terminate => write_word(out, at, task, seq, b" terminate\n"),
@@ -62,7 +110,15 @@ fn write_take<O: Sink>(out: &mut O, at: u64, task: u32, seq: u32, request: &Requ
     }
 }
 
-fn write_publish<'a, O: Sink>(out: &mut O, at: u64, task: u32, seq: u32, qos: Qos, topic: &'a Text, payload: &'a Blob) -> Result<(), Fault>
+fn write_publish<'a, O: Sink>(
+    out: &mut O,
+    at: u64,
+    task: u32,
+    seq: u32,
+    qos: Qos,
+    topic: &'a Text,
+    payload: &'a Blob,
+) -> Result<(), Fault>
     ensures text { Writes (O.written out.old) (O.written out.new) result (texts.publish_line at task seq qos topic.now payload.now) }
     ensures cause { Counted (IsErrOf result Fault.Failed) (O.faults out.old) (O.faults out.new) }
 {
@@ -105,7 +161,13 @@ fn write_word<O: Sink>(out: &mut O, at: u64, task: u32, seq: u32, word: &[u8]) -
     )
 }
 
-fn write_subscribe<O: Sink>(out: &mut O, at: u64, task: u32, seq: u32, asks: &[Ask]) -> Result<(), Fault>
+fn write_subscribe<O: Sink>(
+    out: &mut O,
+    at: u64,
+    task: u32,
+    seq: u32,
+    asks: &[Ask],
+) -> Result<(), Fault>
     ensures text { Writes (O.written out.old) (O.written out.new) result (texts.subscribe_line at task seq asks.now) }
     ensures cause { Counted (IsErrOf result Fault.Failed) (O.faults out.old) (O.faults out.new) }
 {
@@ -129,10 +191,24 @@ fn write_ask<O: Sink>(out: &mut O, ask: &Ask) -> Result<(), Fault>
     ensures cause { Counted (IsErrOf result Fault.Failed) (O.faults out.old) (O.faults out.new) }
 {
     let qos = qos_word(ask.qos).as_bytes();
-    write_parts(out, &[Part::Plain(b" "), Part::Escaped(ask.filter.as_bytes()), Part::Plain(b" "), Part::Plain(qos)])
+    write_parts(
+        out,
+        &[
+            Part::Plain(b" "),
+            Part::Escaped(ask.filter.as_bytes()),
+            Part::Plain(b" "),
+            Part::Plain(qos),
+        ],
+    )
 }
 
-fn write_unsubscribe<O: Sink>(out: &mut O, at: u64, task: u32, seq: u32, filters: &[Text]) -> Result<(), Fault>
+fn write_unsubscribe<O: Sink>(
+    out: &mut O,
+    at: u64,
+    task: u32,
+    seq: u32,
+    filters: &[Text],
+) -> Result<(), Fault>
     ensures text { Writes (O.written out.old) (O.written out.new) result (texts.unsubscribe_line at task seq filters.now) }
     ensures cause { Counted (IsErrOf result Fault.Failed) (O.faults out.old) (O.faults out.new) }
 {
@@ -162,7 +238,17 @@ fn write_broke<O: Sink>(out: &mut O, at: u64, why: Why) -> Result<(), Fault>
     ensures text { Writes (O.written out.old) (O.written out.new) result (texts.broke_line at why) }
     ensures cause { Counted (IsErrOf result Fault.Failed) (O.faults out.old) (O.faults out.new) }
 {
-    write_parts(out, &[Part::Plain(b"@"), Part::Number(at), Part::Plain(b" broke "), Part::Plain(why_word(why).as_bytes()), Part::Count(why_count(why)), Part::Plain(b"\n")])
+    write_parts(
+        out,
+        &[
+            Part::Plain(b"@"),
+            Part::Number(at),
+            Part::Plain(b" broke "),
+            Part::Plain(why_word(why).as_bytes()),
+            Part::Count(why_count(why)),
+            Part::Plain(b"\n"),
+        ],
+    )
 }
 
 fn why_word(why: Why) -> &'static str
@@ -207,7 +293,14 @@ fn write_effect<O: Sink>(out: &mut O, effect: &Effect) -> Result<(), Fault>
     ensures cause { Counted (IsErrOf result Fault.Failed) (O.faults out.old) (O.faults out.new) }
 {
     match effect {
-        Effect::Send { packet } => write_parts(out, &[Part::Plain(b"  send "), Part::Spelled(packet), Part::Plain(b"\n")]),
+        Effect::Send { packet } => write_parts(
+            out,
+            &[
+                Part::Plain(b"  send "),
+                Part::Spelled(packet),
+                Part::Plain(b"\n"),
+            ],
+        ),
         Effect::Done { task, seq, outcome } => write_done(out, *task, *seq, outcome),
         Effect::Pass { task, message } => write_parts(
             out,
@@ -223,7 +316,14 @@ fn write_effect<O: Sink>(out: &mut O, effect: &Effect) -> Result<(), Fault>
                 Part::Plain(b"\n"),
             ],
         ),
-        Effect::Closed { task } => write_parts(out, &[Part::Plain(b"  closed "), Part::Number(u64::from(*task)), Part::Plain(b"\n")]),
+        Effect::Closed { task } => write_parts(
+            out,
+            &[
+                Part::Plain(b"  closed "),
+                Part::Number(u64::from(*task)),
+                Part::Plain(b"\n"),
+            ],
+        ),
     }
 }
 

@@ -12,12 +12,11 @@ use Rattle.agent_link.specs.Writes.{AppendsFront, Writes}
 
 -- a front, behind what was written before it
 pub front_behind : (a b c : Option (List ℕ)) (xs ys : List ℕ) → Appends a b xs → AppendsFront b c ys → AppendsFront a c (xs ++ ys)
-front_behind a b c xs ys before (k, within, front) =
-    (
-      length xs + k,
-      omega (arith, length-append xs ys),
-      subst (Appends a c) (sym (take-append-add xs ys k)) (Appends-trans a b c xs (take k ys) before front),
-    )
+front_behind a b c xs ys before (k, within, front) = (
+  length xs + k,
+  omega (arith, length-append xs ys),
+  subst (Appends a c) (sym (take-append-add xs ys k)) (Appends-trans a b c xs (take k ys) before front),
+)
 
 -- a front of a text is a front of a longer one
 pub front_longer : (a b : Option (List ℕ)) (xs ys : List ℕ) → AppendsFront a b xs → AppendsFront a b (xs ++ ys)

@@ -5,11 +5,10 @@ ghost use Rattle.std.specs.Io.{WritesAtMost};
 ghost use Rattle.std.specs.Io.KnownBytes.{WriteAppends};
 ghost use Rattle.agent_link.specs.Counts.{Counted};
 
-use std::alloc::Global;
-use std::marker::Model;
-
 use crate::fault::Fault;
 use crate::sink::Sink;
+use std::alloc::Global;
+use std::marker::Model;
 
 /// Text in memory that waits to be written. As a sink it takes all that it is given, and fails only
 /// where memory runs out.

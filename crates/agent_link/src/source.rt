@@ -6,9 +6,8 @@ ghost use Rattle.std.specs.Io.{ReadsAtMost};
 ghost use Rattle.std.specs.Io.KnownBytes.{ReadConsumes, Consumes, IsAtEnd};
 ghost use Rattle.agent_link.specs.Counts.{Counted};
 
-use std::alloc::Global;
-
 use crate::fault::Fault;
+use std::alloc::Global;
 
 /// A device that gives bytes until it is at its end.
 pub trait Source {

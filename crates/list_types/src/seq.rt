@@ -4,11 +4,10 @@ ghost use Rattle.std.specs.Prelude.{◌≡◌, ◌<◌, ◌↔◌, [], ◌∷◌
 ghost use Rattle.std.specs.Option.{option_copied};
 ghost use Rattle.std.specs.Slice.Iter.{iter_rest};
 
+use crate::copied::Copied;
 use std::alloc::{AllocError, AllocFailed, Global};
 use std::marker::Model;
 use std::slice;
-
-use crate::copied::Copied;
 
 /// A growing list. Contracts see the list of its elements, in order.
 #[derive(Debug, Drop)]

@@ -4,10 +4,9 @@ ghost use Rattle.std.specs.Prelude.{◌≡◌, ◌<◌, ◌↔◌, [], length, s
 ghost use Rattle.std.specs.Option.{option_copied};
 ghost use Rattle.std.specs.Str.{is_utf8};
 
+use crate::copied::Copied;
 use std::alloc::{AllocError, Global};
 use std::marker::Model;
-
-use crate::copied::Copied;
 
 /// A text in UTF-8. Contracts see the list of its bytes.
 #[derive(Debug, Drop)]

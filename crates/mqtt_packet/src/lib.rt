@@ -28,6 +28,3 @@ pub type Resend = Seq<Packet>;
 
 /// Want of memory.
 pub type NoMemory = std::alloc::AllocError;
-
-
-

@@ -2,11 +2,10 @@
 
 ghost use Rattle.std.specs.Prelude.{◌≡◌, IfOk};
 
-use list_types::{Blob, Copied, Seq, Text};
-use std::alloc::{AllocError, Global};
-
 use crate::qos::Qos;
 use crate::will::{Ask, Will};
+use list_types::{Blob, Copied, Seq, Text};
+use std::alloc::{AllocError, Global};
 
 /// A control packet (MQTT 3.1.1, chapter 3). A packet identifier is above 0, and that of a PUBLISH
 /// is 0 exactly where its quality of service is at most once.
@@ -22,7 +21,10 @@ pub enum Packet {
         password: Option<Blob>,
     },
     /// The server's answer to it (section 3.2). `present` says that it kept a session; `code` 0 accepts.
-    ConnAck { present: bool, code: u8 },
+    ConnAck {
+        present: bool,
+        code: u8,
+    },
     /// An application message (section 3.3).
     Publish {
         dup: bool,
@@ -33,21 +35,40 @@ pub enum Packet {
         payload: Blob,
     },
     /// Ends a delivery at least once (section 3.4).
-    PubAck { id: u16 },
+    PubAck {
+        id: u16,
+    },
     /// First answer to a delivery exactly once (section 3.5).
-    PubRec { id: u16 },
+    PubRec {
+        id: u16,
+    },
     /// Releases the identifier of such a delivery (section 3.6).
-    PubRel { id: u16 },
+    PubRel {
+        id: u16,
+    },
     /// Ends such a delivery (section 3.7).
-    PubComp { id: u16 },
+    PubComp {
+        id: u16,
+    },
     /// Asks for messages (section 3.8).
-    Subscribe { id: u16, asks: Seq<Ask> },
+    Subscribe {
+        id: u16,
+        asks: Seq<Ask>,
+    },
     /// The server's answer, a code for each filter (section 3.9).
-    SubAck { id: u16, codes: Seq<u8> },
+    SubAck {
+        id: u16,
+        codes: Seq<u8>,
+    },
     /// Ends subscriptions (section 3.10).
-    Unsubscribe { id: u16, filters: Seq<Text> },
+    Unsubscribe {
+        id: u16,
+        filters: Seq<Text>,
+    },
     /// The server's answer to it (section 3.11).
-    UnsubAck { id: u16 },
+    UnsubAck {
+        id: u16,
+    },
     /// Asks whether the server is there (section 3.12).
     PingReq,
     /// It is (section 3.13).
@@ -59,7 +80,14 @@ pub enum Packet {
 impl Copied for Packet {
     fn copy(&self, alloc: Global) -> Result<Packet, AllocError> {
         Ok(match self {
-            Packet::Connect { clean, keep_alive, client, will, user, password } => Packet::Connect {
+            Packet::Connect {
+                clean,
+                keep_alive,
+                client,
+                will,
+                user,
+                password,
+            } => Packet::Connect {
                 clean: *clean,
                 keep_alive: *keep_alive,
                 client: client.copy(alloc)?,
@@ -71,7 +99,14 @@ impl Copied for Packet {
                 present: *present,
                 code: *code,
             },
-            Packet::Publish { dup, qos, retain, topic, id, payload } => Packet::Publish {
+            Packet::Publish {
+                dup,
+                qos,
+                retain,
+                topic,
+                id,
+                payload,
+            } => Packet::Publish {
                 dup: *dup,
                 qos: *qos,
                 retain: *retain,

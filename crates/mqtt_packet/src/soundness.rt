@@ -3,12 +3,11 @@
 ghost use Rattle.std.specs.Prelude.{◌≡◌};
 ghost use Rattle.mqtt_packet.specs.Spelling as spelling;
 
-use list_types::{Blob, Text};
-
 use crate::packet::Packet;
 use crate::qos::Qos;
 use crate::spell::len_within;
 use crate::will::Will;
+use list_types::{Blob, Text};
 
 /// The greatest number of bytes that a packet may have. This limit is the project's own.
 pub const PACKET_LIMIT: usize = 262_144;
@@ -27,9 +26,21 @@ fn has_fields(packet: &Packet) -> bool
     ensures { result ≡ spelling.has_fields packet.now }
 {
     match packet {
-        Packet::Connect { client, will, user, password, .. } => is_plain(will, user, password) && is_string(client),
+        Packet::Connect {
+            client,
+            will,
+            user,
+            password,
+            ..
+        } => is_plain(will, user, password) && is_string(client),
         Packet::ConnAck { present, code } => *code <= 5 && (*code == 0 || !*present),
-        Packet::Publish { dup, qos, topic, id, .. } => is_string(topic) && is_delivery(*dup, *qos, *id),
+        Packet::Publish {
+            dup,
+            qos,
+            topic,
+            id,
+            ..
+        } => is_string(topic) && is_delivery(*dup, *qos, *id),
         Packet::PubAck { id } => *id != 0,
         Packet::PubRec { id } => *id != 0,
         Packet::PubRel { id } => *id != 0,

@@ -3,10 +3,9 @@
 ghost use Rattle.std.specs.Prelude.{◌≡◌, ℕ, ◌+◌, ◌*◌, ◌%◌, ◌^◌, ◌<◌, ◌≤◌, ◌↔◌, ◌∷◌, [], ◌++◌, length, take, true, IsErr, IfOk, IfErr, OnErr};
 ghost use Rattle.mqtt_packet.specs.Spelling as spelling;
 
-use list_types::{Blob, Text};
-
 use crate::packet::Packet;
 use crate::qos::Qos;
+use list_types::{Blob, Text};
 
 /// The buffer is too short for the packet.
 #[derive(Clone, Copy, Debug, PartialEq, Eq)]
@@ -59,7 +58,12 @@ fn body_len(packet: &Packet) -> usize
     match packet {
         Packet::Connect { client, .. } => connect_len(client),
         Packet::ConnAck { .. } => 2,
-        Packet::Publish { qos, topic, payload, .. } => publish_len(*qos, topic, payload),
+        Packet::Publish {
+            qos,
+            topic,
+            payload,
+            ..
+        } => publish_len(*qos, topic, payload),
         Packet::PubAck { .. } => 2,
         Packet::PubRec { .. } => 2,
         Packet::PubRel { .. } => 2,
@@ -130,7 +134,12 @@ fn first(packet: &Packet) -> u8
     match packet {
         Packet::Connect { .. } => 0x10,
         Packet::ConnAck { .. } => 0x20,
-        Packet::Publish { dup, qos, retain, .. } => publish_first(*dup, *qos, *retain),
+        Packet::Publish {
+            dup,
+            qos,
+            retain,
+            ..
+        } => publish_first(*dup, *qos, *retain),
         Packet::PubAck { .. } => 0x40,
         Packet::PubRec { .. } => 0x50,
         Packet::PubRel { .. } => 0x62,
@@ -214,9 +223,23 @@ fn put_remaining(out: &mut [u8], at: usize, len: usize) -> usize
     } else if len < 16_384 {
         put(out, at, [group(len), (len / 128) as u8].as_slice())
     } else if len < 2_097_152 {
-        put(out, at, [group(len), group(len / 128), (len / 128 / 128) as u8].as_slice())
+        put(
+            out,
+            at,
+            [group(len), group(len / 128), (len / 128 / 128) as u8].as_slice(),
+        )
     } else {
-        put(out, at, [group(len), group(len / 128), group(len / 128 / 128), (len / 128 / 128 / 128) as u8].as_slice())
+        put(
+            out,
+            at,
+            [
+                group(len),
+                group(len / 128),
+                group(len / 128 / 128),
+                (len / 128 / 128 / 128) as u8,
+            ]
+            .as_slice(),
+        )
     }
 }
 
@@ -235,9 +258,20 @@ fn put_body(out: &mut [u8], at: usize, packet: &Packet) -> usize
     ensures front { take result out.new ≡ take at out.old ++ spelling.body packet.now }
 {
     match packet {
-        Packet::Connect { clean, keep_alive, client, .. } => put_connect(out, at, *clean, *keep_alive, client),
+        Packet::Connect {
+            clean,
+            keep_alive,
+            client,
+            ..
+        } => put_connect(out, at, *clean, *keep_alive, client),
         Packet::ConnAck { present, code } => put(out, at, [bit(*present), *code].as_slice()),
-        Packet::Publish { qos, topic, id, payload, .. } => put_publish(out, at, *qos, topic, *id, payload),
+        Packet::Publish {
+            qos,
+            topic,
+            id,
+            payload,
+            ..
+        } => put_publish(out, at, *qos, topic, *id, payload),
         Packet::PubAck { id } => put_number(out, at, *id),
         Packet::PubRec { id } => put_number(out, at, *id),
         Packet::PubRel { id } => put_number(out, at, *id),
@@ -259,7 +293,11 @@ fn put_connect(out: &mut [u8], at: usize, clean: bool, keep_alive: u16, client: 
     ensures len { length out.new ≡ length out.old }
     ensures front { take result out.new ≡ take at out.old ++ spelling.connect_body clean keep_alive client.now }
 {
-    let at = put(out, at, [0, 4, b'M', b'Q', b'T', b'T', 4, 2 * bit(clean)].as_slice());
+    let at = put(
+        out,
+        at,
+        [0, 4, b'M', b'Q', b'T', b'T', 4, 2 * bit(clean)].as_slice(),
+    );
     let at = put_number(out, at, keep_alive);
     put_string(out, at, client)
 }

@@ -2,10 +2,9 @@
 
 ghost use Rattle.std.specs.Prelude.{◌≡◌, IfOk};
 
+use crate::qos::Qos;
 use list_types::{Blob, Copied, Text};
 use std::alloc::{AllocError, Global};
-
-use crate::qos::Qos;
 
 /// One request of a SUBSCRIBE (MQTT 3.1.1, section 3.8.3).
 #[derive(Debug, Drop, PartialEq, Eq)]

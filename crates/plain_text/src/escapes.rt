@@ -4,10 +4,9 @@ ghost use Rattle.std.specs.Prelude.{◌≡◌, ◌<◌, ◌≤◌, length, take,
 ghost use Rattle.plain_text.specs.Escapes as escapes;
 ghost use Rattle.plain_text.specs.Reading.{Gives};
 
+use crate::refusal::Refusal;
 use list_types::Text;
 use std::alloc::Global;
-
-use crate::refusal::Refusal;
 
 /// The text that a word stands for, each `%` and its two upper-case hexadecimal digits read as a
 /// byte.
@@ -48,7 +47,11 @@ fn digit_of(value: u8) -> u8
     requires { value < 16 }
     ensures { result ≡ escapes.digit_of value }
 {
-    if value < 10 { b'0' + value } else { b'A' - 10 + value }
+    if value < 10 {
+        b'0' + value
+    } else {
+        b'A' - 10 + value
+    }
 }
 
 fn bytes_of(alloc: Global, word: &[u8]) -> Result<Vec<u8>, Refusal>

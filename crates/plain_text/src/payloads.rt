@@ -3,11 +3,10 @@
 ghost use Rattle.plain_text.specs.Payloads as payloads;
 ghost use Rattle.plain_text.specs.Reading.{Gives};
 
+use crate::refusal::Refusal;
 use hex::FromHexError;
 use list_types::Blob;
 use std::alloc::Global;
-
-use crate::refusal::Refusal;
 
 /// The payload that a word stands for: `-` for the empty one, else pairs of hexadecimal digits.
 #[tactic(auto, unfolding(crate::specs::Payloads::payload_of))]

@@ -5,12 +5,11 @@ ghost use Rattle.std.specs.Io.{WritesAtMost};
 ghost use Rattle.std.specs.Io.KnownBytes.{WriteAppends};
 ghost use Rattle.agent_link.specs.Counts.{Counted};
 
-use std::alloc::Global;
-use std::marker::Model;
-
 use crate::fault::Fault;
 use crate::memory::plan::FailPlan;
 use crate::sink::Sink;
+use std::alloc::Global;
+use std::marker::Model;
 
 /// A sink over memory. It takes all that it is given.
 #[derive(Debug, Drop)]

@@ -5,11 +5,10 @@ ghost use Rattle.std.specs.Io.{ReadsAtMost};
 ghost use Rattle.std.specs.Io.KnownBytes.{ReadConsumes};
 ghost use Rattle.agent_link.specs.Counts.{Counted};
 
-use std::marker::Model;
-
 use crate::fault::Fault;
 use crate::memory::plan::FailPlan;
 use crate::source::Source;
+use std::marker::Model;
 
 /// A source over bytes in memory. It gives as many as fit.
 #[derive(Debug, Drop)]

@@ -7,14 +7,13 @@ ghost use Rattle.agent_link.specs.Counts.{Counted, raised};
 ghost use Rattle.agent_link.specs.Wires.{after_open, after_send, after_recv, onto_last, FitsIn, IsFrontOf};
 ghost use Rattle.agent_link.specs.Tape.{unplayed, opening, hears, present, passed, advance};
 
-use list_types::Blob;
-use std::alloc::{AllocError, Global};
-use std::marker::Model;
-
 use crate::fault::Fault;
 use crate::link::{Heard, Link};
 use crate::memory::source::give;
 use crate::tape::{Item, Tape};
+use list_types::Blob;
+use std::alloc::{AllocError, Global};
+use std::marker::Model;
 
 /// A link whose broker is a tape: each connection gives the bytes of its items, one item a receive,
 /// and takes all that is sent.
@@ -39,9 +38,14 @@ impl Model for TapeLink {
     ghost Value = { Playing };
 
     ghost view = { λ l. record {
-        left = advance l.offset (drop l.at l.items.items); connected = l.connected;
-        taken = l.taken.items; given = l.given.items;
-        faults = l.faults; ends = l.ends; nothings = l.nothings } };
+      left = advance l.offset (drop l.at l.items.items);
+      connected = l.connected;
+      taken = l.taken.items;
+      given = l.given.items;
+      faults = l.faults;
+      ends = l.ends;
+      nothings = l.nothings;
+    } };
 }
 
 impl TapeLink {
