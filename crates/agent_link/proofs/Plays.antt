@@ -1,5 +1,5 @@
 -- Steps of a link that a tape plays.
-use Rattle.std.proofs.Common.{◌≡◌, ℕ, zero, suc, ◌+◌, ◌<◌, ◌≤◌, min, List, [], ◌∷◌, ◌++◌, length, drop, get_or, Option, Some, None, Bool, true, false, cond, refl, sym, ap, ◌∙◌, arith, append_assoc}
+use Rattle.std.proofs.Common.{◌≡◌, ℕ, zero, suc, ◌+◌, ◌<◌, ◌≤◌, min, List, [], ◌∷◌, ◌++◌, length, drop, get_or, Option, Some, None, Bool, true, false, cond, refl, sym, ap, ◌∙◌, arith, append_assoc, length-drop}
 use Rattle.std.specs.Prelude.{nat_lt}
 use Rattle.std.proofs.lemmas.Bool.{lt-ltb, le-ltb}
 use Rattle.std.proofs.lemmas.List.{drop-drop, drop_more, drop_all}
@@ -7,7 +7,7 @@ use Rattle.agent_link.specs.declared.tape.Item.{Item}
 use Rattle.agent_link.specs.declared.tape.Item.TheVariants as items
 use Rattle.agent_link.specs.declared.link.Heard.TheVariants as heard
 use Rattle.agent_link.specs.Wires.{onto_last}
-use Rattle.agent_link.specs.Tape.{hears, comes, passed, present, opening, advance}
+use Rattle.agent_link.specs.Tape.{hears, comes, passed, present, opening, closed, behind_open, advance}
 
 pub onto_last_end : (wires : List (List ℕ)) (wire bytes : List ℕ) → onto_last (wires ++ wire ∷ []) bytes ≡ wires ++ (wire ++ bytes) ∷ []
 onto_last_end [] wire bytes = refl
@@ -49,18 +49,36 @@ pub heard_none : (n room : ℕ) (left : List Item) → n ≡ min (length (presen
 heard_none zero room left e none = ap (λ m. comes m left) e
 heard_none (suc n) room left e none = absurd (omega arith)
 
--- the next opening is behind what isn't one
-pub opening_later : (at : ℕ) (xs : List Item) (bytes : List ℕ) (d : Item) → at < length xs → get_or xs at d ≡ items.Hear bytes → opening (drop (at + 1) xs) ≡ opening (drop at xs)
-opening_later at xs bytes d within is = rw (drop_more xs at d within, is) refl
+-- what isn't an opening is gone
+pub closed_later : (at : ℕ) (xs : List Item) (bytes : List ℕ) (d : Item) → at < length xs → get_or xs at d ≡ items.Hear bytes → closed (drop at xs) ≡ closed (drop (at + 1) xs)
+closed_later at xs bytes d within is = rw (drop_more xs at d within, is) refl
 
-pub opening_here : (at : ℕ) (xs : List Item) (d : Item) → at < length xs → get_or xs at d ≡ items.Open → opening (drop at xs) ≡ Some (drop (at + 1) xs)
-opening_here at xs d within is = rw (drop_more xs at d within, is) refl
+pub closed_here : (at : ℕ) (xs : List Item) (d : Item) → at < length xs → get_or xs at d ≡ items.Open → closed (drop at xs) ≡ drop at xs
+closed_here at xs d within is = rw (drop_more xs at d within, is) refl
 
-pub opening_end : (at : ℕ) (xs : List Item) → length xs ≤ at → opening (drop at xs) ≡ None
-opening_end at xs end = ap opening (drop_all at xs end)
+pub closed_end : (at : ℕ) (xs : List Item) → length xs ≤ at → closed (drop at xs) ≡ drop at xs
+closed_end at xs end = rw (drop_all at xs end) refl
 
 -- what was given of the first item doesn't move the next opening
-pub opening_advance : (k : ℕ) (xs : List Item) → opening (advance k xs) ≡ opening xs
-opening_advance k [] = refl
-opening_advance k (items.Open ∷ xs) = refl
-opening_advance k (items.Hear bytes ∷ xs) = refl
+pub closed_advance : (k : ℕ) (xs : List Item) → closed (advance k xs) ≡ closed xs
+closed_advance k [] = refl
+closed_advance k (items.Open ∷ xs) = refl
+closed_advance k (items.Hear bytes ∷ xs) = refl
+
+-- what is left behind the unused items begins with an opening
+closed_open : (xs rest : List Item) (bytes : List ℕ) → closed xs ≡ items.Hear bytes ∷ rest → ⊥
+closed_open [] rest bytes e = cc e
+closed_open (items.Open ∷ xs) rest bytes e = cc e
+closed_open (items.Hear b ∷ xs) rest bytes e = closed_open xs rest bytes e
+
+found : (ys xs : List Item) → closed xs ≡ ys → 0 < length ys → behind_open ys ≡ Some (drop 1 ys)
+found [] xs e some = absurd (omega arith)
+found (items.Open ∷ ys) xs e some = refl
+found (items.Hear bytes ∷ ys) xs e some = absurd (closed_open xs ys bytes e)
+
+pub opening_found : (k at next : ℕ) (xs : List Item) → closed (drop at xs) ≡ drop next xs → next < length xs → opening (advance k (drop at xs)) ≡ Some (drop (next + 1) xs)
+opening_found k at next xs e within =
+    ap behind_open (closed_advance k (drop at xs) ∙ e) ∙ found (drop next xs) (drop at xs) e (omega (arith, length-drop next xs)) ∙ ap Some (drop-drop 1 next xs)
+
+pub opening_missing : (k at next : ℕ) (xs : List Item) → closed (drop at xs) ≡ drop next xs → length xs ≤ next → opening (advance k (drop at xs)) ≡ None
+opening_missing k at next xs e end = ap behind_open (closed_advance k (drop at xs) ∙ e ∙ drop_all next xs end)

@@ -44,8 +44,11 @@ tape_from stage n [] = end_in stage n
 tape_from stage n (line ∷ lines) = if is_passed line then tape_from stage (n + 1) lines else item_or_line n (item_in stage line) (tape_from (stage_behind stage) (n + 1) lines)
 
 -- a whole tape
+abbrev pub tape_in : List (List ℕ) → Result (List Item) ℕ
+tape_in lines = tape_from Empty 1 lines
+
 abbrev pub tape_of : List ℕ → Result (List Item) ℕ
-tape_of text = tape_from Empty 1 (lines_of text)
+tape_of text = tape_in (lines_of text)
 
 -- A link that a tape plays: the items that are left, whether a connection is there, and what the traits tell.
 pub record Playing : Type 0 where
@@ -61,11 +64,20 @@ pub record Playing : Type 0 where
 abbrev pub unplayed : List Item → Playing
 unplayed items = record { left = items; connected = false; taken = []; given = []; faults = 0; ends = 0; nothings = 0 }
 
--- The items behind the next opening. What the connection before left unused is gone.
+-- What the present connection left unused is gone.
+abbrev pub closed : List Item → List Item
+closed [] = []
+closed (items.Open ∷ rest) = items.Open ∷ rest
+closed (items.Hear bytes ∷ rest) = closed rest
+
+abbrev pub behind_open : List Item → Option (List Item)
+behind_open [] = None
+behind_open (items.Open ∷ rest) = Some rest
+behind_open (items.Hear bytes ∷ rest) = None
+
+-- the items behind the next opening
 abbrev pub opening : List Item → Option (List Item)
-opening [] = None
-opening (items.Open ∷ rest) = Some rest
-opening (items.Hear bytes ∷ rest) = opening rest
+opening left = behind_open (closed left)
 
 -- the bytes that come next
 abbrev pub present : List Item → List ℕ

@@ -1,5 +1,5 @@
 -- What a reader's answer says of the tape that the definition reads.
-use Rattle.std.specs.Prelude.{◌≡◌, ℕ, List, Result, Ok, Err}
+use Rattle.std.specs.Prelude.{◌≡◌, ℕ, ◌≤◌, List, Result, Ok, Err}
 use Rattle.agent_link.specs.declared.tape.Item.{Item}
 use Rattle.agent_link.specs.declared.tape.TapeFault.{TapeFault}
 use Rattle.agent_link.specs.declared.tape.TapeFault.TheVariants as faults
@@ -9,3 +9,9 @@ abbrev pub Tells : Result (List Item) TapeFault → Result (List Item) ℕ → T
 Tells (Ok tape) read = read ≡ Ok tape
 Tells (Err (faults.Line n)) read = read ≡ Err n
 Tells (Err faults.NoMemory) read = Unit {0}
+
+-- The number of a bad line is at most n.
+abbrev pub IsLineWithin : ℕ → Result (List Item) TapeFault → Type 0
+IsLineWithin n (Ok tape) = Unit {0}
+IsLineWithin n (Err (faults.Line line)) = line ≤ n
+IsLineWithin n (Err faults.NoMemory) = Unit {0}

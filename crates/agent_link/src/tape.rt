@@ -1,9 +1,9 @@
 //! The tape of a broker, read from its text.
 
-ghost use Rattle.std.specs.Prelude.{◌≡◌, ℕ};
+ghost use Rattle.std.specs.Prelude.{◌≡◌, ℕ, ◌+◌, length};
 ghost use Rattle.plain_text.specs.Reading.{Gives};
 ghost use Rattle.agent_link.specs.Tape as tapes;
-ghost use Rattle.agent_link.specs.TapeReading.{Tells};
+ghost use Rattle.agent_link.specs.TapeReading.{Tells, IsLineWithin};
 
 use list_types::{Blob, Seq};
 use plain_text::{Refusal, is_passed, line_at};
@@ -53,7 +53,8 @@ enum Stage {
 /// that accepts. Empty lines and those that begin with `#` may stand anywhere.
 #[tactic(auto, using(crate::proofs::Tapes::line_passed, crate::proofs::Tapes::line_read, crate::proofs::Tapes::line_refused, crate::proofs::Tapes::tape_end, crate::proofs::Tapes::tape_short))]
 pub fn read_tape(alloc: Global, text: &[u8]) -> Result<Tape, TapeFault>
-    ensures { Tells result (tapes.tape_of text.now) }
+    ensures tape { Tells result (tapes.tape_of text.now) }
+    ensures small { IsLineWithin (length text.now + 1) result }
 {
     let mut items = Tape::new(alloc);
     let mut stage = Stage::Empty;

@@ -5,7 +5,7 @@ ghost use Rattle.std.specs.Option.{option_copied, option_map};
 ghost use Rattle.std.specs.Io.{WritesAtMost};
 ghost use Rattle.agent_link.specs.Counts.{Counted, raised};
 ghost use Rattle.agent_link.specs.Wires.{after_open, after_send, after_recv, onto_last, FitsIn, IsFrontOf};
-ghost use Rattle.agent_link.specs.Tape.{unplayed, opening, hears, present, passed, advance};
+ghost use Rattle.agent_link.specs.Tape.{unplayed, opening, closed, hears, present, passed, advance};
 
 use crate::fault::Fault;
 use crate::link::{Heard, Link};
@@ -89,7 +89,7 @@ impl Link for TapeLink {
 
     ghost nothings = { λ l. l.nothings };
 
-    #[tactic(auto, using(crate::proofs::Plays::advance_none, crate::proofs::Plays::opening_advance))]
+    #[tactic(auto, using(crate::proofs::Plays::advance_none, crate::proofs::Plays::opening_found, crate::proofs::Plays::opening_missing))]
     fn open(&mut self, _to: &str) -> Result<(), Fault>
         ensures taken { Some self.new.taken ≡ after_open (Some self.old.taken) result }
         ensures given { Some self.new.given ≡ after_open (Some self.old.given) result }
@@ -103,12 +103,13 @@ impl Link for TapeLink {
         ensures failed { IsErrOf result Fault.Failed → opening self.old.left ≡ None }
         ensures kept { OnErr result (self.new.left ≡ self.old.left) }
     {
-        let Some(next) = behind_opening(self.items.as_slice(), self.at) else {
+        let next = next_opening(self.items.as_slice(), self.at);
+        if next >= self.items.len() {
             self.faults = self.faults.saturating_add(1);
             return Err(Fault::Failed);
-        };
+        }
         begin(self.alloc, &mut self.taken, &mut self.given)?;
-        self.at = next;
+        self.at = next + 1;
         self.offset = 0;
         self.connected = true;
         Ok(())
@@ -149,50 +150,53 @@ impl Link for TapeLink {
         ensures nothing { result ≡ Ok Heard.Nothing → self.new.nothings ≡ raised self.old.nothings }
 
         // What comes is the next item, as far as it fits.
-        ensures exact { self.old.connected ≡ true → IfOk result (λ h. (h, self.new.left) ≡ hears (length buf.old) self.old.left) }
+        ensures exact { IfOk result (λ h. (h, self.new.left) ≡ hears (length buf.old) self.old.left) }
         ensures front { IfOk result (λ h. IsFrontOf h buf.new (present self.old.left)) }
         ensures connected { self.new.connected ≡ self.old.connected }
-        ensures failed { IsErrOf result Fault.Failed → self.old.connected ≡ false }
+        ensures failed { IsErrOf result Fault.Failed → ⊥ }
     {
-        if self.connected {
-            let bytes = bytes_at(self.items.as_slice(), self.at, self.offset);
-            let count = give(bytes, buf);
-            if 0 < count {
-                append_last(&mut self.given, &buf[..count])?;
-                go_past(self.items.as_slice(), &mut self.at, &mut self.offset, count);
-                return Ok(Heard::Bytes(count));
-            }
+        let bytes = bytes_at(self.items.as_slice(), self.at, self.offset);
+        let count = give(bytes, buf);
+        if 0 < count {
+            append_last(&mut self.given, &buf[..count])?;
+            go_past(self.items.as_slice(), &mut self.at, &mut self.offset, count);
+            return Ok(Heard::Bytes(count));
         }
         self.ends = self.ends.saturating_add(1);
         Ok(Heard::End)
     }
 
+    #[tactic(auto, using(crate::proofs::Plays::advance_none, crate::proofs::Plays::closed_advance))]
     fn shut(&mut self)
         ensures taken { Some self.new.taken ≡ Some self.old.taken }
         ensures given { Some self.new.given ≡ Some self.old.given }
         ensures faults { self.old.faults ≤ self.new.faults }
         ensures ends { self.old.ends ≤ self.new.ends }
         ensures nothings { self.old.nothings ≤ self.new.nothings }
-        ensures left { (self.new.left ≡ self.old.left) × (self.new.connected ≡ false) }
+
+        // What the connection left unused is gone.
+        ensures left { self.new.left ≡ closed self.old.left }
+        ensures connected { self.new.connected ≡ false }
     {
+        self.at = next_opening(self.items.as_slice(), self.at);
+        self.offset = 0;
         self.connected = false;
     }
 }
 
-/// Where the items behind the next opening begin, from `at` on.
-#[tactic(auto, using(crate::proofs::Plays::opening_later, crate::proofs::Plays::opening_here, crate::proofs::Plays::opening_end))]
-fn behind_opening(items: &[Item], at: usize) -> Option<usize>
-    ensures some { IfSome result (λ next. opening (drop at items.now) ≡ Some (drop next items.now)) }
-    ensures none { IfNone result (opening (drop at items.now) ≡ None) }
+/// Where the next opening stands, from `at` on, or the end of the items.
+#[tactic(auto, using(crate::proofs::Plays::closed_later, crate::proofs::Plays::closed_here, crate::proofs::Plays::closed_end))]
+fn next_opening(items: &[Item], at: usize) -> usize
+    ensures closed { closed (drop at items.now) ≡ drop result items.now }
 {
     let mut next = at;
     while next < items.len() {
         if let Item::Open = &items[next] {
-            return Some(next + 1);
+            return next;
         }
         next += 1;
     }
-    None
+    next
 }
 
 /// What the item at `at` still has to give, behind its first `offset` bytes.
