@@ -1,4 +1,7 @@
+pub mod Soundness
 pub mod Utf8
 pub mod Chains
 pub mod ScriptLoops
 pub mod Pieces
+pub mod Lawful
+pub mod FewLines

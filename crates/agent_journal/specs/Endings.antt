@@ -1,5 +1,5 @@
 -- How a run ends: by the entry behind which the phase was Off for the first time.
-use Rattle.std.specs.Prelude.{ℕ, ◌==◌, Bool, true, false, List, [], ◌∷◌, ◌++◌, Option, Some, None, if◌then◌else◌, codes, decimal}
+use Rattle.std.specs.Prelude.{ℕ, ◌==◌, Bool, true, false, List, [], ◌∷◌, Option, Some, None, if◌then◌else◌, codes}
 use Rattle.mqtt_packet.specs.declared.packet.Packet.{Packet}
 use Rattle.mqtt_packet.specs.declared.packet.Packet.TheVariants as p
 use Rattle.agent_journal.specs.declared.entry.Cause.{Cause}
@@ -72,10 +72,17 @@ status (e.Refused code) = 4
 status e.Bytes = 5
 status e.Held = 6
 
--- the last line that is printed
-abbrev pub last_line : Ending → List ℕ
-last_line e.Done = codes "ok"
-last_line e.GaveUp = codes "fault link"
-last_line (e.Refused code) = codes "fault refused " ++ decimal code
-last_line e.Bytes = codes "fault bytes"
-last_line e.Held = codes "fault held"
+-- the word of the last line that is printed, and the code behind it
+abbrev pub last_word : Ending → List ℕ
+last_word e.Done = codes "ok"
+last_word e.GaveUp = codes "fault link"
+last_word (e.Refused code) = codes "fault refused "
+last_word e.Bytes = codes "fault bytes"
+last_word e.Held = codes "fault held"
+
+abbrev pub last_code : Ending → Option ℕ
+last_code e.Done = None
+last_code e.GaveUp = None
+last_code (e.Refused code) = Some code
+last_code e.Bytes = None
+last_code e.Held = None

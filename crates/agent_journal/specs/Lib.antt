@@ -1,3 +1,4 @@
+pub mod Setups
 pub mod Requests
 pub mod Readings
 pub mod Rows
@@ -9,3 +10,4 @@ pub mod Texts
 pub mod Scripts
 pub mod ScriptReading
 pub mod Parts
+pub mod Laws

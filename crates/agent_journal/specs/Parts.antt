@@ -20,6 +20,7 @@ part_text (parts.Hex bytes) = encode_lower bytes.now
 part_text (parts.Payload bytes) = payload_text bytes.now
 part_text (parts.Escaped text) = escaped text.now
 part_text (parts.Number n) = decimal n
+part_text (parts.Total n) = decimal n
 part_text (parts.Count count) = count_text count
 part_text (parts.Spelled packet) = encode_lower (spelling packet.now)
 
@@ -29,6 +30,7 @@ IsSoundPart (parts.Hex bytes) = Unit {0}
 IsSoundPart (parts.Payload bytes) = Unit {0}
 IsSoundPart (parts.Escaped text) = Unit {0}
 IsSoundPart (parts.Number n) = Unit {0}
+IsSoundPart (parts.Total n) = Unit {0}
 IsSoundPart (parts.Count count) = Unit {0}
 IsSoundPart (parts.Spelled packet) = is_sound packet.now ≡ true
 

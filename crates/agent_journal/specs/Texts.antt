@@ -8,6 +8,8 @@ use Rattle.mqtt_packet.specs.declared.will.Ask.{Ask}
 use Rattle.mqtt_packet.specs.Spelling.{spelling}
 use Rattle.plain_text.specs.Escapes.{escaped}
 use Rattle.plain_text.specs.Payloads.{payload_text}
+use Rattle.agent_journal.specs.declared.ending.Ending.{Ending}
+use Rattle.agent_journal.specs.Endings.{last_word, last_code}
 use Rattle.agent_journal.specs.declared.request.Request.{Request}
 use Rattle.agent_journal.specs.declared.request.Request.TheVariants as requests
 use Rattle.agent_journal.specs.declared.outcome.Outcome.{Outcome}
@@ -145,6 +147,10 @@ effect_text (f.Closed task) = joined (codes "  closed " ∷ decimal task ∷ lin
 
 unfoldable pub entry_text : Entry → List ℕ
 entry_text e = cause_line e.at e.cause ++ flat_map effect_text e.effects
+
+-- the last line of a run
+abbrev pub last_line : Ending → List ℕ
+last_line ending = joined (last_word ending ∷ count_text (last_code ending) ∷ line_end ∷ [])
 
 -- a whole journal
 abbrev pub journal_text : List Entry → List ℕ

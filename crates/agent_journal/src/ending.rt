@@ -35,6 +35,17 @@ impl Ending {
         }
     }
 
+    /// How a run has ended behind one more entry, by the phases before and behind it.
+    pub fn behind(before: Phase, behind: Phase, cause: &Cause, ending: Option<Ending>) -> Option<Ending>
+        ensures { result ≡ endings.ending_behind before behind cause.now ending }
+    {
+        match (before, behind) {
+            (Phase::Off, _) => ending,
+            (_, Phase::Off) => Some(Ending::by(before, cause)),
+            _ => None,
+        }
+    }
+
     fn by_packet(phase: Phase, packet: &Packet) -> Ending
         ensures { result ≡ endings.ending_by_packet phase packet.now }
     {
@@ -60,6 +71,29 @@ impl Ending {
             Ending::Refused { .. } => 4,
             Ending::Bytes => 5,
             Ending::Held => 6,
+        }
+    }
+
+    /// The word of the last line that is printed.
+    pub fn word(self) -> &'static str
+        ensures { result.now ≡ endings.last_word self }
+    {
+        match self {
+            Ending::Done => "ok",
+            Ending::GaveUp => "fault link",
+            Ending::Refused { .. } => "fault refused ",
+            Ending::Bytes => "fault bytes",
+            Ending::Held => "fault held",
+        }
+    }
+
+    /// The code behind that word.
+    pub fn code(self) -> Option<u64>
+        ensures { result ≡ endings.last_code self }
+    {
+        match self {
+            Ending::Refused { code } => Some(u64::from(code)),
+            Ending::Done | Ending::GaveUp | Ending::Bytes | Ending::Held => None,
         }
     }
 }

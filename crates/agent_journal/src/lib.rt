@@ -5,6 +5,7 @@
 mod effect;
 mod ending;
 mod entry;
+mod laws;
 mod message;
 mod outcome;
 mod parts;
@@ -17,6 +18,7 @@ pub use effect::Effect;
 pub use ending::Ending;
 pub use entry::{Cause, Entry, Why};
 use list_types::Seq;
+pub use laws::has_sound_packets;
 pub use message::Message;
 pub use outcome::Outcome;
 pub use parts::{Part, write_parts};

@@ -30,6 +30,8 @@ pub enum Part<'a> {
     Escaped(&'a [u8]),
     /// In decimal.
     Number(u64),
+    /// In decimal, a count that may be larger than a `u64`.
+    Total(u128),
     /// In decimal, or nothing.
     Count(Option<u64>),
     /// The packet's bytes in hexadecimal.
@@ -59,12 +61,21 @@ fn write_part<O: Sink>(out: &mut O, part: &Part<'_>) -> Result<(), Fault>
         Part::Payload(bytes) => write_payload(out, bytes),
         Part::Escaped(text) => write_escaped(out, text),
         Part::Number(n) => write_number(out, *n),
+        Part::Total(n) => write_total(out, *n),
         Part::Count(count) => write_count(out, *count),
         Part::Spelled(packet) => write_packet(out, packet),
     }
 }
 
 fn write_number<O: Sink>(out: &mut O, n: u64) -> Result<(), Fault>
+    ensures text { Writes (O.written out.old) (O.written out.new) result (decimal n) }
+    ensures cause { Counted (IsErrOf result Fault.Failed) (O.faults out.old) (O.faults out.new) }
+{
+    let mut buffer = Buffer::new();
+    write_all(out, buffer.format(n).as_bytes())
+}
+
+fn write_total<O: Sink>(out: &mut O, n: u128) -> Result<(), Fault>
     ensures text { Writes (O.written out.old) (O.written out.new) result (decimal n) }
     ensures cause { Counted (IsErrOf result Fault.Failed) (O.faults out.old) (O.faults out.new) }
 {

@@ -1,6 +1,6 @@
 //! Scripts, read from their text.
 
-ghost use Rattle.std.specs.Prelude.{◌≡◌, ◌+◌, ◌≤◌, length, drop};
+ghost use Rattle.std.specs.Prelude.{◌≡◌, ◌+◌, ◌≤◌, length, drop, IfOk};
 ghost use Rattle.plain_text.specs.Lines.{lines_of};
 ghost use Rattle.plain_text.specs.Reading.{Gives};
 ghost use Rattle.agent_journal.specs.Scripts as scripts;
@@ -75,9 +75,10 @@ impl<T: Drop> From<AllocFailed<T>> for ScriptFault {
 
 /// The script that a text spells, and where the text behind its line `tape` begins, or the text's
 /// length where it has none.
-#[tactic(auto, using(crate::proofs::ScriptLoops::script_read, crate::proofs::ScriptLoops::script_refused))]
+#[tactic(auto, using(crate::proofs::ScriptLoops::script_read, crate::proofs::ScriptLoops::script_refused, crate::proofs::FewLines::few_in_script))]
 pub fn read_script(alloc: Global, text: &[u8]) -> Result<(Script, usize), ScriptFault>
-    ensures { Tells text.now result }
+    ensures script { Tells text.now result }
+    ensures few { IfOk result (λ x. length x.0.lines ≤ length text.now) }
 {
     let (tasks, number, at) = read_tasks(text)?;
     let (lines, end) = read_lines(alloc, text, number, at)?;

@@ -1,0 +1,11 @@
+-- The laws, by induction on the past.
+use Rattle.std.proofs.Common.{List, [], ◌∷◌}
+use Rattle.agent_journal.specs.declared.entry.Entry.{Entry}
+use Rattle.agent_journal.specs.declared.setup.Setup.{Setup}
+use Rattle.agent_journal.specs.Histories.{readings}
+use Rattle.agent_journal.specs.Laws.{HasSoundPackets}
+use Rattle.agent_journal.proofs.Soundness.{entry_sound}
+
+pub has_sound_packets : HasSoundPackets
+has_sound_packets s [] client legal = tt
+has_sound_packets s (e ∷ past) client legal = (entry_sound s (readings s past) e client legal.0, has_sound_packets s past client legal.1)
