@@ -1,9 +1,8 @@
 -- What is kept at first stands for the empty journal.
-use Rattle.std.proofs.Common.{◌≡◌, ℕ, zero, suc, false, List, [], refl, get_or}
-use Rattle.std.specs.Prelude.{slice_index_or, replicate}
+use Rattle.std.proofs.Common.{◌≡◌, ℕ, zero, suc, false, [], refl, get_or}
+use Rattle.std.specs.Prelude.{replicate}
 use Rattle.agent_journal.specs.declared.setup.Setup.{Setup}
 use Rattle.agent_journal.specs.declared.setup.Phase.TheVariants.{Down}
-use Rattle.agent_core.specs.Kept.{Kept}
 use Rattle.agent_core.specs.Stands.{StandsFor}
 
 same_everywhere : {A : Type 0} (n t : ℕ) (a : A) → get_or (replicate n a) t a ≡ a

@@ -1,6 +1,6 @@
 -- A cause with a row can be counted.
-use Rattle.std.proofs.Common.{◌≡◌, ℕ, ◌<◌, ◌≤◌, Bool, true, false, List, [], ◌∷◌, length, Option, Some, None, is_some, refl, sym, ap, ◌∙◌, arith}
-use Rattle.std.specs.Prelude.{◌&&◌, ◌==◌, not, nat_le, nat_lt, if◌then◌else◌, slice_index_or}
+use Rattle.std.proofs.Common.{◌≡◌, ℕ, ◌<◌, ◌≤◌, Bool, true, false, length, is_some, refl, sym, arith}
+use Rattle.std.specs.Prelude.{◌&&◌, ◌==◌, not, nat_le, nat_lt, if◌then◌else◌}
 use Rattle.std.proofs.lemmas.Bool.{ltb-true, leb-true, eqb-true}
 use Rattle.mqtt_packet.specs.Spelling.{is_sound}
 use Rattle.mqtt_packet.specs.declared.packet.Packet.{Packet}
@@ -13,7 +13,7 @@ use Rattle.agent_journal.specs.declared.setup.Phase.{Phase}
 use Rattle.agent_journal.specs.declared.setup.Phase.TheVariants.{Down, Opening, Up, Spilled, Off}
 use Rattle.agent_journal.specs.Requests.{is_valid}
 use Rattle.agent_journal.specs.Readings.{Readings}
-use Rattle.agent_journal.specs.Rows.{Row, when, row_of, cause_row, take_row, take_in, may_take, arrived_row, arrived_in, opening_row, connack_row, is_wiping, is_first}
+use Rattle.agent_journal.specs.Rows.{row_of, cause_row, take_row, take_in, may_take, arrived_row, arrived_in, opening_row, connack_row, is_wiping, is_first}
 use Rattle.agent_core.specs.Kept.{Kept, readings_in, row_now, CanNote}
 use Rattle.agent_core.proofs.OneRows.{some_when}
 

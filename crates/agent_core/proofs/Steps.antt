@@ -1,6 +1,6 @@
 -- From what is kept to the journals that it stands for: each reading is one entry longer.
 use Rattle.std.proofs.Common.{◌≡◌, ◌≢◌, ℕ, ◌+◌, ◌<◌, ◌≤◌, Bool, true, false, List, [], ◌∷◌, ◌++◌, length, get_or, Option, Some, None, Result, Ok, Err, IfOk, MatchOption, is_some, refl, sym, ap, ◌∙◌, subst, arith, get_or-set_same, get_or-set_other}
-use Rattle.std.specs.Prelude.{◌==◌, ◌&&◌, ◌||◌, not, if◌then◌else◌, nat_le, slice_index_or, slice_set, filter}
+use Rattle.std.specs.Prelude.{◌==◌, ◌&&◌, ◌||◌, if◌then◌else◌, nat_le, slice_index_or, slice_set, filter}
 use Rattle.std.proofs.lemmas.Bool.{cases_Bool, eqb-true, eq-eqb, le-leb, lt-leb}
 use mathlib.Core.Logic.{inl, inr}
 use Rattle.mqtt_packet.specs.declared.qos.Qos.{Qos}
@@ -14,14 +14,14 @@ use Rattle.agent_journal.specs.declared.entry.Entry.{Entry}
 use Rattle.agent_journal.specs.declared.effect.Effect.{Effect}
 use Rattle.agent_journal.specs.declared.setup.Setup.{Setup}
 use Rattle.agent_journal.specs.declared.setup.Phase.{Phase}
-use Rattle.agent_journal.specs.Readings.{Readings, is_leave, takes_of, takes_by, takes_behind, has_left, leaves_by, breaks_behind, accepted_behind, pending_of, opens, stays_open, Pending}
-use Rattle.agent_journal.specs.Rows.{Row, when, row_of, cause_row, take_row, request_row, publish_row, finish_row}
-use Rattle.agent_journal.specs.Histories.{readings, row, effects_of, phase_of, phase_by, due_by}
+use Rattle.agent_journal.specs.Readings.{Readings, is_leave, takes_behind, leaves_by, breaks_behind, accepted_behind, opens, stays_open}
+use Rattle.agent_journal.specs.Rows.{when, row_of, cause_row, request_row, publish_row}
+use Rattle.agent_journal.specs.Histories.{readings, row, effects_of, phase_by, due_by}
 use Rattle.agent_core.specs.Kept.{Kept, readings_in, row_now, next, takes_with, left_with}
 use Rattle.agent_core.specs.Stands.{StandsFor}
 use Rattle.agent_core.proofs.Notes.{in_time, took}
-use Rattle.agent_core.proofs.OneRows.{some_when, is_when}
-use Rattle.agent_core.proofs.OneRows.{take_is, take_row_is}
+use Rattle.agent_core.proofs.OneRows.{is_when}
+use Rattle.agent_core.proofs.OneRows.{take_is}
 
 flag : (b : Bool) → (b ≡ true → ⊥) → b ≡ false
 flag true not_true = absurd (not_true refl)

@@ -4,8 +4,7 @@ use Rattle.agent_journal.specs.declared.setup.Setup.{Setup}
 use Rattle.agent_journal.specs.declared.setup.Phase.{Phase}
 use Rattle.agent_journal.specs.declared.entry.Cause.{Cause}
 use Rattle.agent_journal.specs.declared.entry.Cause.TheVariants as c
-use Rattle.agent_journal.specs.declared.request.Request.{Request}
-use Rattle.agent_journal.specs.Readings.{Readings, is_leave, accepts, accepted_behind, breaks_behind}
+use Rattle.agent_journal.specs.Readings.{Readings, is_leave, accepted_behind, breaks_behind}
 use Rattle.agent_journal.specs.Rows.{Row, row_of}
 use Rattle.agent_journal.specs.Histories.{phase_by}
 

@@ -1,11 +1,11 @@
 -- A script has at most as many lines as its text has bytes.
-use Rattle.std.proofs.Common.{◌≡◌, ℕ, suc, ◌+◌, ◌≤◌, Bool, true, false, cond, List, [], ◌∷◌, length, drop, Option, Some, None, Result, Ok, Err, refl, sym, ap, ◌∙◌, subst, arith, length-drop}
-use Rattle.std.specs.Prelude.{◌==◌, nat_le}
+use Rattle.std.proofs.Common.{◌≡◌, ℕ, suc, ◌+◌, ◌≤◌, Bool, true, false, cond, List, [], ◌∷◌, length, drop, Option, Some, None, Result, Ok, Err, subst, arith, length-drop}
+use Rattle.std.specs.Prelude.{◌==◌}
 use Rattle.std.proofs.lemmas.Bool.{cases_Bool}
 use mathlib.Core.Logic.{inl, inr}
 use Rattle.plain_text.specs.Lines.{lines_of, onto_line, is_passed}
 use Rattle.agent_journal.specs.declared.script.Line.{Line}
-use Rattle.agent_journal.specs.Scripts.{Read, lines_from, line_of, line_or_number, onto_lines, is_tape}
+use Rattle.agent_journal.specs.Scripts.{Read, lines_from, line_of, line_or_number, is_tape}
 
 onto_count : (b : ℕ) (lines : List (List ℕ)) (n : ℕ) → length lines ≤ n → length (onto_line b lines) ≤ suc n
 onto_count b [] n h = omega arith

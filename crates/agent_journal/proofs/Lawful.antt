@@ -1,7 +1,5 @@
 -- The laws, by induction on the past.
-use Rattle.std.proofs.Common.{List, [], ◌∷◌}
-use Rattle.agent_journal.specs.declared.entry.Entry.{Entry}
-use Rattle.agent_journal.specs.declared.setup.Setup.{Setup}
+use Rattle.std.proofs.Common.{[], ◌∷◌}
 use Rattle.agent_journal.specs.Histories.{readings}
 use Rattle.agent_journal.specs.Laws.{HasSoundPackets}
 use Rattle.agent_journal.proofs.Soundness.{entry_sound}

@@ -4,8 +4,7 @@ use Rattle.std.proofs.lemmas.List.{drop_all}
 use Rattle.plain_text.specs.Lines.{lines_of, is_passed}
 use Rattle.agent_journal.specs.declared.script.Line.{Line}
 use Rattle.agent_journal.specs.declared.script.Script.{Script}
-use Rattle.agent_journal.specs.declared.request.Request.{Request}
-use Rattle.agent_journal.specs.Scripts.{Read, lines_from, line_of, line_or_number, onto_lines, is_tape, tasks_of, script_from, script_of, script_with, script_or_number}
+use Rattle.agent_journal.specs.Scripts.{Read, lines_from, line_of, line_or_number, onto_lines, is_tape, tasks_of, script_from, script_with, script_or_number}
 
 -- the lines that were read, and behind them those of the rest
 abbrev pub behind : List Line → Result Read ℕ → Result Read ℕ

@@ -1,5 +1,5 @@
 -- Texts in parts, as they are written.
-use Rattle.std.specs.Prelude.{◌≡◌, ℕ, Bool, true, List, decimal}
+use Rattle.std.specs.Prelude.{◌≡◌, ℕ, true, List, decimal}
 use Rattle.std.specs.List.{AllByRecursion}
 use Rattle.hex.specs.Hex.{encode_lower}
 use Rattle.mqtt_packet.specs.Spelling.{spelling, is_sound}

@@ -1,12 +1,11 @@
 -- What a journal says of one task, in the order of its entries.
-use Rattle.std.specs.Prelude.{◌≡◌, ℕ, ◌+◌, ◌<◌, ◌≤◌, Bool, true, false, ◌&&◌, not, ◌==◌, List, [], ◌∷◌, ◌++◌, if◌then◌else◌, nat_lt, count_by}
+use Rattle.std.specs.Prelude.{◌≡◌, ℕ, ◌+◌, Bool, false, ◌&&◌, not, ◌==◌, List, [], ◌∷◌, ◌++◌, if◌then◌else◌, nat_lt, count_by}
 use Rattle.agent_journal.specs.declared.request.Request.{Request}
 use Rattle.agent_journal.specs.declared.entry.Cause.{Cause}
 use Rattle.agent_journal.specs.declared.entry.Cause.TheVariants as c
 use Rattle.agent_journal.specs.declared.entry.Entry.{Entry}
 use Rattle.agent_journal.specs.declared.effect.Effect.{Effect}
 use Rattle.agent_journal.specs.declared.effect.Effect.TheVariants as f
-use Rattle.agent_journal.specs.declared.outcome.Outcome.{Outcome}
 use Rattle.agent_journal.specs.Readings.{is_leave, completes}
 
 abbrev pub request_in : ℕ → Cause → List Request

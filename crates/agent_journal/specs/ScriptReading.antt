@@ -5,7 +5,7 @@ use Rattle.agent_journal.specs.declared.script.Line.{Line}
 use Rattle.agent_journal.specs.declared.script.Script.{Script}
 use Rattle.agent_journal.specs.declared.script.ScriptFault.{ScriptFault}
 use Rattle.agent_journal.specs.declared.script.ScriptFault.TheVariants as faults
-use Rattle.agent_journal.specs.Scripts.{script_of, script_from, script_with, lines_from}
+use Rattle.agent_journal.specs.Scripts.{script_of, script_with, lines_from}
 
 -- The answer is the script and the place of the lines behind it, and Line exactly where that line is the first bad one. Want
 -- of memory says nothing.

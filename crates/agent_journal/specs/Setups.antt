@@ -1,7 +1,6 @@
 -- Which setups an agent can be given.
 use Rattle.std.specs.Prelude.{ℕ, Bool, ◌&&◌, nat_lt, nat_le, List, length}
 use Rattle.std.specs.List.{list_all}
-use Rattle.agent_journal.specs.declared.setup.Setup.{Setup}
 
 abbrev pub is_printed : ℕ → Bool
 is_printed b = nat_le 33 b && nat_le b 126

@@ -36,7 +36,12 @@ impl Ending {
     }
 
     /// How a run has ended behind one more entry, by the phases before and behind it.
-    pub fn behind(before: Phase, behind: Phase, cause: &Cause, ending: Option<Ending>) -> Option<Ending>
+    pub fn behind(
+        before: Phase,
+        behind: Phase,
+        cause: &Cause,
+        ending: Option<Ending>,
+    ) -> Option<Ending>
         ensures { result ≡ endings.ending_behind before behind cause.now ending }
     {
         match (before, behind) {

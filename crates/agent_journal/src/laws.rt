@@ -6,5 +6,4 @@ ghost use Rattle.agent_journal.specs.Laws.{HasSoundPackets};
 #[tactic(auto, using(crate::proofs::Lawful::has_sound_packets))]
 pub fn has_sound_packets()
     ensures { HasSoundPackets }
-{
-}
+{}

@@ -1,11 +1,11 @@
 -- Steps of the loop that reads a tape line by line.
-use Rattle.std.proofs.Common.{◌≡◌, ℕ, ◌+◌, ◌≤◌, List, [], ◌∷◌, ◌++◌, length, drop, Option, Some, None, Result, Ok, Err, true, false, refl, sym, ap, ◌∙◌, append_assoc, append-nil}
+use Rattle.std.proofs.Common.{◌≡◌, ℕ, ◌+◌, ◌≤◌, List, [], ◌∷◌, ◌++◌, length, drop, Some, None, Result, Ok, Err, true, false, refl, sym, ap, ◌∙◌, append_assoc, append-nil}
 use Rattle.std.proofs.lemmas.List.{drop_all}
 use Rattle.plain_text.specs.Lines.{lines_of, is_passed}
 use Rattle.agent_link.specs.declared.tape.Item.{Item}
 use Rattle.agent_link.specs.declared.tape.Stage.{Stage}
 use Rattle.agent_link.specs.declared.tape.Stage.TheVariants.{Accepted}
-use Rattle.agent_link.specs.Tape.{tape_from, item_in, stage_behind, end_in, onto_items, item_or_line}
+use Rattle.agent_link.specs.Tape.{tape_from, item_in, stage_behind, end_in, onto_items}
 
 -- the items that were read, and behind them those of the rest
 abbrev pub behind : List Item → Result (List Item) ℕ → Result (List Item) ℕ

@@ -22,3 +22,6 @@ pub use page::Page;
 pub use sink::{Sink, write_all};
 pub use source::{Source, read_all};
 pub use tape::{Item, Tape, TapeFault, read_tape};
+
+#[cfg(test)]
+mod tests;

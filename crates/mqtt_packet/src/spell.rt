@@ -23,7 +23,7 @@ pub fn spelled_len(packet: &Packet) -> usize
 }
 
 /// Writes a packet into the front of `out`, and answers how many bytes it has. Where `out` is
-/// shorter than that, it stays as it was.
+/// shorter than that, it stays as it was. What stands behind the packet may change.
 pub fn encode(packet: &Packet, out: &mut [u8]) -> Result<usize, TooSmall>
     requires { spelling.is_sound packet.now ≡ true }
     ensures count { IfOk result (λ n. n ≡ length (spelling.spelling packet.now)) }

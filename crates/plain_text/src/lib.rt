@@ -12,3 +12,6 @@ pub use lines::{is_passed, line_at};
 pub use payloads::payload_of;
 pub use refusal::Refusal;
 pub use words::{last_at, word_at};
+
+#[cfg(test)]
+mod tests;

@@ -3,7 +3,7 @@
 ghost use Rattle.std.specs.Prelude.{◌≡◌, ◌<◌, ◌↔◌, [], length, Contains, Some, IfOk, IsErrOf};
 ghost use Rattle.std.specs.Io.{WritesAtMost};
 ghost use Rattle.std.specs.Io.KnownBytes.{WriteAppends};
-ghost use Rattle.agent_link.specs.Counts.{Counted};
+ghost use Rattle.agent_link.specs.Counts.{Counted, raised};
 
 use crate::fault::Fault;
 use crate::memory::plan::FailPlan;
@@ -56,6 +56,7 @@ impl Sink for MemSink {
         ensures bytes { WriteAppends (Some self.old.bytes) (Some self.new.bytes) result bytes.now }
         ensures cause { Counted (IsErrOf result Fault.Failed) self.old.plan.faults self.new.plan.faults }
         ensures failed { IsErrOf result Fault.Failed ↔ Contains self.old.plan.fails self.old.plan.call }
+        ensures calls { (self.new.plan.fails ≡ self.old.plan.fails) × (self.new.plan.call ≡ raised self.old.plan.call) }
     {
         if self.plan.fails() {
             return Err(Fault::Failed);

@@ -1,6 +1,6 @@
 //! A link that a tape plays.
 
-ghost use Rattle.std.specs.Prelude.{◌≡◌, ℕ, ◌+◌, ◌^◌, ◌<◌, ◌≤◌, [], ◌∷◌, ◌++◌, length, drop, slice_get, true, false, IsTrue, IsErr, Some, None, IfOk, IfSome, IfNone, IsErrOf, OnOk, OnErr, Ok};
+ghost use Rattle.std.specs.Prelude.{◌≡◌, ℕ, ◌+◌, ◌^◌, ◌<◌, ◌≤◌, ◌↔◌, [], ◌∷◌, ◌++◌, length, drop, slice_get, true, false, IsTrue, IsErr, Some, None, IfOk, IfSome, IfNone, IsErrOf, OnOk, OnErr, Ok};
 ghost use Rattle.std.specs.Option.{option_copied, option_map};
 ghost use Rattle.std.specs.Io.{WritesAtMost};
 ghost use Rattle.agent_link.specs.Counts.{Counted, raised};
@@ -101,7 +101,7 @@ impl Link for TapeLink {
         ensures onward { OnOk result (opening self.old.left ≡ Some self.new.left) }
         ensures connected { OnOk result (IsTrue self.new.connected) }
         ensures failed { IsErrOf result Fault.Failed → opening self.old.left ≡ None }
-        ensures kept { OnErr result (self.new.left ≡ self.old.left) }
+        ensures kept { OnErr result ((self.new.left ≡ self.old.left) × (self.new.connected ≡ self.old.connected)) }
     {
         let next = next_opening(self.items.as_slice(), self.at);
         if next >= self.items.len() {
@@ -127,7 +127,7 @@ impl Link for TapeLink {
 
         // All is taken, where a connection is there.
         ensures whole { IfOk result (λ n. n ≡ length bytes.now) }
-        ensures failed { IsErrOf result Fault.Failed → self.old.connected ≡ false }
+        ensures failed { IsErrOf result Fault.Failed ↔ (self.old.connected ≡ false) }
         ensures left { (self.new.left ≡ self.old.left) × (self.new.connected ≡ self.old.connected) }
     {
         if !self.connected {
@@ -153,7 +153,8 @@ impl Link for TapeLink {
         ensures exact { IfOk result (λ h. (h, self.new.left) ≡ hears (length buf.old) self.old.left) }
         ensures front { IfOk result (λ h. IsFrontOf h buf.new (present self.old.left)) }
         ensures connected { self.new.connected ≡ self.old.connected }
-        ensures failed { IsErrOf result Fault.Failed → ⊥ }
+        ensures never { IsErrOf result Fault.Failed → ⊥ }
+        ensures kept { OnErr result (self.new.left ≡ self.old.left) }
     {
         let bytes = bytes_at(self.items.as_slice(), self.at, self.offset);
         let count = give(bytes, buf);

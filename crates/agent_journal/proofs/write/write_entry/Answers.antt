@@ -1,5 +1,4 @@
-use Rattle.std.proofs.Common.{ap, subst}
-use Rattle.agent_journal.specs.Texts.{entry_text, effect_text}
+use Rattle.agent_journal.specs.Texts.{entry_text}
 use Rattle.agent_link.proofs.Writing.{stopped, front_longer, writes_behind}
 use Rattle.agent_journal.proofs.write.write_entry.Goals as goal
 

@@ -1,0 +1,122 @@
+-- From what was read to the whole answer.
+use Rattle.std.proofs.Common.{◌≡◌, ◌≢◌, ◌⊎◌, ℕ, suc, ◌+◌, ◌-◌, ◌<◌, ◌≤◌, Bool, true, false, cond, List, [], ◌∷◌, ◌++◌, length, drop, Option, Some, None, IfSome, Result, Ok, Err, refl, sym, ap, ◌∙◌, subst, arith, length-append}
+use Rattle.std.specs.Prelude.{nat_lt}
+use Rattle.std.specs.Io.KnownBytes.{Appends, Consumes, IsAtEnd}
+use Rattle.std.proofs.KnownBytes.{Consumes-whole}
+use Rattle.std.proofs.lemmas.Bool.{lt-ltb, le-ltb, cases_lt}
+use Rattle.std.proofs.lemmas.List.{drop_all}
+use mathlib.Core.Logic.{inl, inr}
+use Rattle.plain_text.specs.Lines.{lines_of, is_passed}
+use Rattle.agent_link.specs.declared.tape.Item.{Item}
+use Rattle.agent_journal.specs.declared.script.Script.{Script}
+use Rattle.agent_journal.specs.Scripts.{Read, script_of, script_from, script_with, script_or_number, tasks_of, lines_from}
+use Rattle.agent_main.specs.declared.words.RunWords.{RunWords}
+use Rattle.agent_main.specs.Answers.{Answer, Answers, source_answer, script_answer, tape_answer, bad_line, too_long, no_reading, words_answer}
+
+-- all of the source was read
+told_whole : (a b : Option (List ℕ)) (bytes : List ℕ) (words : RunWords) (result : ℕ) (old new : Option (List ℕ)) → Consumes a b bytes → (length bytes ≤ 1048576 → IsAtEnd b) → length bytes ≤ 1048576
+    → Answers result old new (source_answer words bytes) → IfSome a (λ text. result ≢ 9 → Answers result old new (source_answer words text))
+told_whole a b bytes words result old new taken end short h =
+    Consumes-whole a b bytes (λ text. result ≢ 9 → Answers result old new (source_answer words text)) taken (end short) (λ other. h)
+
+is_long : (words : RunWords) (text : List ℕ) → 1048576 < length text → source_answer words text ≡ too_long
+unfolding source_answer
+is_long words text h = rw (lt-ltb 1048576 (length text) h) refl
+
+-- more than may be was read
+told_long : (a b : Option (List ℕ)) (bytes : List ℕ) (words : RunWords) (result : ℕ) (old new : Option (List ℕ)) → Consumes a b bytes → 1048576 < length bytes → Answers result old new too_long
+    → IfSome a (λ text. result ≢ 9 → Answers result old new (source_answer words text))
+told_long None b bytes words result old new taken long h = tt
+told_long (Some text) None bytes words result old new taken long h = absurd taken
+told_long (Some text) (Some rest) bytes words result old new taken long h = λ other.
+    let more : 1048576 < length text = omega (arith, ap length taken, length-append bytes rest) in
+    subst (Answers result old new) (sym (is_long words text more)) h
+
+-- what a source's length says of the answer
+by_size : (a b : Option (List ℕ)) (bytes : List ℕ) (words : RunWords) (result : ℕ) (old new : Option (List ℕ)) → Consumes a b bytes → (length bytes ≤ 1048576 → IsAtEnd b)
+    → (length bytes ≤ 1048576 → Answers result old new (source_answer words bytes)) → (1048576 < length bytes → Answers result old new too_long)
+    → (1048576 < length bytes) ⊎ (length bytes ≤ 1048576) → IfSome a (λ text. result ≢ 9 → Answers result old new (source_answer words text))
+by_size a b bytes words result old new taken end whole long (inl more) = told_long a b bytes words result old new taken more (long more)
+by_size a b bytes words result old new taken end whole long (inr short) = told_whole a b bytes words result old new taken end short (whole short)
+
+pub told_sized : (a b : Option (List ℕ)) (bytes : List ℕ) (words : RunWords) (result : ℕ) (old new : Option (List ℕ)) → Consumes a b bytes → (length bytes ≤ 1048576 → IsAtEnd b)
+    → (length bytes ≤ 1048576 → Answers result old new (source_answer words bytes)) → (1048576 < length bytes → Answers result old new too_long)
+    → IfSome a (λ text. result ≢ 9 → Answers result old new (source_answer words text))
+told_sized a b bytes words result old new taken end whole long = by_size a b bytes words result old new taken end whole long (cases_lt 1048576 (length bytes))
+
+-- the source failed, and this was told
+pub told_fault : (a : Option (List ℕ)) (words : RunWords) (result : ℕ) (old new : Option (List ℕ)) → (result ≡ 9) ⊎ (result ≡ 7) ⊎ (result ≡ 8)
+    → IfSome a (λ text. result ≢ 9 → Answers result old new (source_answer words text))
+told_fault None words result old new one = tt
+told_fault (Some text) words result old new (inl nine) = λ other. absurd (other nine)
+told_fault (Some text) words result old new (inr (inl seven)) = λ other. record { whole = λ n m. absurd (n seven); status = λ n m. absurd (n seven) }
+told_fault (Some text) words result old new (inr (inr eight)) = λ other. record { whole = λ n m. absurd (m eight); status = λ n m. absurd (m eight) }
+
+-- a source of few bytes is judged by its script
+pub script_told : (words : RunWords) (text : List ℕ) (read : Result (Script × List (List ℕ)) ℕ) (result : ℕ) (old new : Option (List ℕ)) → length text ≤ 1048576 → script_of text ≡ read
+    → Answers result old new (script_answer words text read) → Answers result old new (source_answer words text)
+unfolding source_answer
+script_told words text read result old new short is h =
+    subst (Answers result old new) (ap (script_answer words text) (sym is) ∙ sym (ap (λ b. cond b too_long (script_answer words text (script_of text))) (le-ltb 1048576 (length text) short))) h
+
+-- a bad line of the script
+pub line_told : (words : RunWords) (text : List ℕ) (number result : ℕ) (old new : Option (List ℕ)) → length text ≤ 1048576 → script_of text ≡ Err number
+    → Answers result old new (bad_line number) → Answers result old new (source_answer words text)
+line_told words text number result old new short is h = script_told words text (Err number) result old new short is h
+
+-- a bad line of the tape
+pub tape_told : (words : RunWords) (before number : ℕ) (script : Script) (tape : Result (List Item) ℕ) (result : ℕ) (old new : Option (List ℕ)) → tape ≡ Err number
+    → Answers result old new (bad_line (before + number)) → Answers result old new (tape_answer words before script tape)
+tape_told words before number script tape result old new is h = subst (λ (t : Result (List Item) ℕ). Answers result old new (tape_answer words before script t)) (sym is) h
+
+-- a script has one task today
+tasks_one : (b : Bool) (tasks : ℕ) → cond b (Some 1) None ≡ Some tasks → tasks ≡ 1
+tasks_one true tasks e = cc
+tasks_one false tasks e = absurd (cc e)
+
+abbrev tasks_in : ℕ → Result (Script × List (List ℕ)) ℕ → ℕ
+tasks_in other (Ok read) = read.0.tasks
+tasks_in other (Err n) = other
+
+with_one : (tasks : ℕ) (read : Result Read ℕ) (script : Script) (others : List (List ℕ)) → script_with tasks read ≡ Ok (script, others) → script.tasks ≡ tasks
+with_one tasks (Ok read) script others e = sym (ap (tasks_in tasks) e)
+with_one tasks (Err n) script others e = absurd (cc e)
+
+or_one : (number : ℕ) (tasks : Option ℕ) (read : Result Read ℕ) (script : Script) (others : List (List ℕ)) → ((n : ℕ) → tasks ≡ Some n → n ≡ 1) → script_or_number number tasks read ≡ Ok (script, others) → script.tasks ≡ 1
+or_one number None read script others one e = absurd (cc e)
+or_one number (Some tasks) read script others one e = with_one tasks read script others e ∙ one tasks refl
+
+by_passed : (passed : Bool) (number : ℕ) (tasks : Option ℕ) (read : Result Read ℕ) (rest : Result (Script × List (List ℕ)) ℕ) (script : Script) (others : List (List ℕ))
+    → ((n : ℕ) → tasks ≡ Some n → n ≡ 1) → (rest ≡ Ok (script, others) → script.tasks ≡ 1) → cond passed rest (script_or_number number tasks read) ≡ Ok (script, others) → script.tasks ≡ 1
+by_passed true number tasks read rest script others one later e = later e
+by_passed false number tasks read rest script others one later e = or_one number tasks read script others one e
+
+one_from : (number : ℕ) (lines : List (List ℕ)) (script : Script) (others : List (List ℕ)) → script_from number lines ≡ Ok (script, others) → script.tasks ≡ 1
+unfolding script_from
+one_from number [] script others e = absurd (cc e)
+one_from number (line ∷ lines) script others e =
+    by_passed (is_passed line) number (tasks_of line) (lines_from (number + 1) lines) (script_from (number + 1) lines) script others (λ n. tasks_one _ n) (one_from (number + 1) lines script others) e
+
+pub one_task : (text : List ℕ) (script : Script) (others : List (List ℕ)) → script_of text ≡ Ok (script, others) → script.tasks ≡ 1
+one_task text script others e = one_from 1 (lines_of text) script others e
+
+-- a line more was counted
+pub line_counted : (text line : List ℕ) (count at next all : ℕ) → count + length (lines_of (drop at text)) ≡ all → lines_of (drop at text) ≡ line ∷ lines_of (drop next text)
+    → count + 1 + length (lines_of (drop next text)) ≡ all
+line_counted text line count at next all h e = let size = ap length e in omega arith
+
+no_lines : (text : List ℕ) → text ≡ [] → length (lines_of text) ≡ 0
+unfolding lines_of
+no_lines text e = ap (λ t. length (lines_of t)) e
+
+pub lines_counted : (text : List ℕ) (count at all : ℕ) → count + length (lines_of (drop at text)) ≡ all → length text ≤ at → count ≡ all
+lines_counted text count at all h end = let none = no_lines (drop at text) (drop_all at text end) in omega arith
+
+pub words_told : (a : Option (List ℕ)) (read : Option RunWords) (words : RunWords) (result : ℕ) (old new : Option (List ℕ)) → read ≡ Some words
+    → IfSome a (λ text. result ≢ 9 → Answers result old new (source_answer words text)) → IfSome a (λ text. result ≢ 9 → Answers result old new (words_answer read text))
+words_told a read words result old new e h = subst (λ (r : Option RunWords). IfSome a (λ text. result ≢ 9 → Answers result old new (words_answer r text))) (sym e) h
+
+pub none_told : (a : Option (List ℕ)) (read : Option RunWords) (result : ℕ) (old new : Option (List ℕ)) → read ≡ None → Answers result old new no_reading
+    → IfSome a (λ text. result ≢ 9 → Answers result old new (words_answer read text))
+none_told None read result old new e h = tt
+none_told (Some text) read result old new e h = λ other. subst (λ (r : Option RunWords). Answers result old new (words_answer r text)) (sym e) h
