@@ -1,5 +1,5 @@
 -- What a finished run prints is the answer of its replay.
-use Rattle.std.proofs.Common.{◌≡◌, ◌≢◌, ℕ, true, List, [], ◌∷◌, ◌++◌, reverse, drop, Option, Some, None, refl, sym, ap, ◌∙◌, subst, arith}
+use Rattle.std.proofs.Common.{◌≡◌, ◌≢◌, ℕ, true, List, [], ◌∷◌, ◌++◌, reverse, drop, Some, sym, ap, ◌∙◌, subst, arith}
 use Rattle.std.specs.List.{AllByRecursion}
 use Rattle.std.proofs.lemmas.List.{reverse-append, reverse-reverse}
 use Rattle.agent_link.specs.declared.tape.Item.{Item}
@@ -21,7 +21,7 @@ use Rattle.agent_main.specs.Runs.{world}
 use Rattle.agent_main.specs.declared.words.RunWords.{RunWords}
 use Rattle.agent_main.specs.Commands.{setup_of}
 use Rattle.agent_main.specs.Replayed.{World, begun, finished}
-use Rattle.agent_main.specs.Answers.{Answer, answer, answer_by, answer_of, report, replay_answer, IsPlain}
+use Rattle.agent_main.specs.Answers.{answer, answer_by, answer_of, report, replay_answer, IsPlain}
 
 pub answered : (words : RunWords) (script : Script) (items : List Item) (w : World) (ending : Ending) → w ≡ finished (begun (setup_of words script.tasks) words.tick script.lines items)
     → Some ending ≡ ending_of w.setup w.past → answer (status ending) (report w.past ending) ≡ replay_answer words script items

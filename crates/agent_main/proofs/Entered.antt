@@ -1,10 +1,9 @@
 -- An entry more.
-use Rattle.std.proofs.Common.{◌≡◌, ℕ, ◌+◌, Bool, true, false, List, [], ◌∷◌, ◌++◌, reverse, Option, Some, None, is_some, refl, sym, ap, ◌∙◌, subst}
+use Rattle.std.proofs.Common.{◌≡◌, ℕ, false, List, [], ◌∷◌, ◌++◌, reverse, Option, Some, None, is_some, refl, sym, ap, ◌∙◌, subst}
 use Rattle.std.proofs.lemmas.List.{reverse-append}
 use Rattle.agent_journal.specs.declared.entry.Cause.{Cause}
 use Rattle.agent_journal.specs.declared.entry.Entry.{Entry}
 use Rattle.agent_journal.specs.declared.effect.Effect.{Effect}
-use Rattle.agent_journal.specs.Readings.{takes_of, takes_by, takes_behind}
 use Rattle.agent_journal.specs.Rows.{Row}
 use Rattle.agent_journal.specs.Histories.{row, effects_of}
 use Rattle.agent_core.specs.Kept.{Kept}

@@ -1,5 +1,5 @@
 -- A round takes at most one request.
-use Rattle.std.proofs.Common.{◌≡◌, ℕ, zero, suc, ◌+◌, ◌-◌, ◌<◌, ◌≤◌, Bool, true, false, cond, List, [], ◌∷◌, length, take, Option, Some, None, refl, sym, ap, ◌∙◌, arith}
+use Rattle.std.proofs.Common.{◌≡◌, ℕ, zero, suc, ◌+◌, ◌-◌, ◌<◌, ◌≤◌, Bool, true, false, List, [], ◌∷◌, take, Option, Some, None, refl, sym, ap, ◌∙◌, arith}
 use Rattle.std.specs.Prelude.{if◌then◌else◌}
 use Rattle.std.specs.Str.{bytes_eq}
 use Rattle.mqtt_packet.specs.declared.packet.Packet.TheVariants as p
@@ -10,8 +10,6 @@ use Rattle.agent_link.specs.Clocks.{step_reading}
 use Rattle.agent_link.specs.Tape.{opening, hears, present, accepting}
 use Rattle.agent_journal.specs.declared.entry.Cause.{Cause}
 use Rattle.agent_journal.specs.declared.entry.Cause.TheVariants as c
-use Rattle.agent_journal.specs.declared.entry.Entry.{Entry}
-use Rattle.agent_journal.specs.declared.request.Request.{Request}
 use Rattle.agent_journal.specs.declared.request.Request.TheVariants as requests
 use Rattle.agent_journal.specs.declared.script.Line.{Line}
 use Rattle.agent_journal.specs.declared.script.Step.{Step}
@@ -21,7 +19,7 @@ use Rattle.agent_journal.specs.declared.setup.Phase.TheVariants.{Down, Opening, 
 use Rattle.agent_journal.specs.Readings.{takes_of, takes_by as takes_cause}
 use Rattle.agent_journal.specs.Rows.{Row}
 use Rattle.agent_journal.specs.Histories.{row, phase_of, readings, due_by}
-use Rattle.agent_main.specs.Replayed.{World, entered, entered_by, opens, opened_by, receives, received_by, arrives, takes, takes_by, takes_step, acts, acts_in, acts_by, round, after, has_ended}
+use Rattle.agent_main.specs.Replayed.{World, entered, entered_by, opens, opened_by, receives, received_by, takes, takes_by, takes_step, acts_in, acts_by, round, after, has_ended}
 
 -- at most one request more than before, and no round more
 abbrev AtMostOne : World → World → Type 0

@@ -1,7 +1,6 @@
 -- From what was read to the whole answer.
-use Rattle.std.proofs.Common.{◌≡◌, ◌≢◌, ◌⊎◌, ℕ, suc, ◌+◌, ◌-◌, ◌<◌, ◌≤◌, Bool, true, false, cond, List, [], ◌∷◌, ◌++◌, length, drop, Option, Some, None, IfSome, Result, Ok, Err, refl, sym, ap, ◌∙◌, subst, arith, length-append}
-use Rattle.std.specs.Prelude.{nat_lt}
-use Rattle.std.specs.Io.KnownBytes.{Appends, Consumes, IsAtEnd}
+use Rattle.std.proofs.Common.{◌≡◌, ◌≢◌, ◌⊎◌, ℕ, ◌+◌, ◌<◌, ◌≤◌, Bool, true, false, cond, List, [], ◌∷◌, length, drop, Option, Some, None, IfSome, Result, Ok, Err, refl, sym, ap, ◌∙◌, subst, arith, length-append}
+use Rattle.std.specs.Io.KnownBytes.{Consumes, IsAtEnd}
 use Rattle.std.proofs.KnownBytes.{Consumes-whole}
 use Rattle.std.proofs.lemmas.Bool.{lt-ltb, le-ltb, cases_lt}
 use Rattle.std.proofs.lemmas.List.{drop_all}
@@ -11,7 +10,7 @@ use Rattle.agent_link.specs.declared.tape.Item.{Item}
 use Rattle.agent_journal.specs.declared.script.Script.{Script}
 use Rattle.agent_journal.specs.Scripts.{Read, script_of, script_from, script_with, script_or_number, tasks_of, lines_from}
 use Rattle.agent_main.specs.declared.words.RunWords.{RunWords}
-use Rattle.agent_main.specs.Answers.{Answer, Answers, source_answer, script_answer, tape_answer, bad_line, too_long, no_reading, words_answer}
+use Rattle.agent_main.specs.Answers.{Answers, source_answer, script_answer, tape_answer, bad_line, too_long, no_reading, words_answer}
 
 -- all of the source was read
 told_whole : (a b : Option (List ℕ)) (bytes : List ℕ) (words : RunWords) (result : ℕ) (old new : Option (List ℕ)) → Consumes a b bytes → (length bytes ≤ 1048576 → IsAtEnd b) → length bytes ≤ 1048576

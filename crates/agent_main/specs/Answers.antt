@@ -7,7 +7,6 @@ use Rattle.agent_link.specs.Tape.{tape_in}
 use Rattle.agent_journal.specs.declared.entry.Entry.{Entry}
 use Rattle.agent_journal.specs.declared.ending.Ending.{Ending}
 use Rattle.agent_journal.specs.declared.script.Script.{Script}
-use Rattle.agent_journal.specs.declared.setup.Setup.{Setup}
 use Rattle.agent_journal.specs.Endings.{ending_of, status}
 use Rattle.agent_journal.specs.Projections.{commands_of, completed_of, messages_of}
 use Rattle.agent_journal.specs.Scripts.{script_of}

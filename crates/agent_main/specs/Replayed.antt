@@ -1,6 +1,6 @@
 -- What a replay does, round by round. It knows no core, no splitter and no arrays: a round reads the entries so far, the
 -- lines that are left of the script and the items that are left of the tape.
-use Rattle.std.specs.Prelude.{◌≡◌, ℕ, zero, suc, ◌+◌, Bool, true, false, ◌&&◌, List, [], ◌∷◌, length, take, Option, Some, None, if◌then◌else◌}
+use Rattle.std.specs.Prelude.{ℕ, zero, suc, ◌+◌, Bool, false, ◌&&◌, List, [], ◌∷◌, length, take, Option, Some, None, if◌then◌else◌}
 use Rattle.std.specs.Str.{bytes_eq}
 use Rattle.mqtt_packet.specs.declared.packet.Packet.TheVariants as p
 use Rattle.agent_link.specs.declared.tape.Item.{Item}

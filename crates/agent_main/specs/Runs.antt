@@ -1,5 +1,5 @@
 -- The world that a run of the code stands for.
-use Rattle.std.specs.Prelude.{◌≡◌, ℕ, true, List, reverse, drop}
+use Rattle.std.specs.Prelude.{◌≡◌, true, List, reverse, drop}
 use Rattle.agent_journal.specs.declared.script.Line.{Line}
 use Rattle.agent_journal.specs.Readings.{takes_of, has_left}
 use Rattle.agent_journal.specs.Histories.{IsLegalPast}

@@ -6,5 +6,4 @@ ghost use Rattle.agent_main.specs.Laws.{ReplaysAreLegal};
 #[tactic(auto, using(crate::proofs::Legal::legal_after))]
 pub fn replays_are_legal()
     ensures { ReplaysAreLegal }
-{
-}
+{}

@@ -11,16 +11,14 @@ mod std_source;
 mod top;
 mod words;
 
-use agent_link::{Sink, Source};
-use std::alloc::{AllocError, Global};
-use std::env;
-use std::rt::Env;
-use std::io;
-use std::process::ExitCode;
-
 use crate::std_sink::StdSink;
 use crate::std_source::StdSource;
 use crate::top::top;
+use agent_link::{Sink, Source};
+use std::alloc::{AllocError, Global};
+use std::process::ExitCode;
+use std::rt::Env;
+use std::{env, io};
 
 fn main(rt: HostRuntime) -> ExitCode {
     let mut source = StdSource::new(rt.reader());
@@ -43,7 +41,12 @@ fn arguments(rt: &(impl Env + AllocGlobal), alloc: Global) -> Result<Vec<String>
     Ok(words)
 }
 
-fn run<S: Source, O: Sink>(alloc: Global, arguments: &[String], source: &mut S, sink: &mut O) -> u8 {
+fn run<S: Source, O: Sink>(
+    alloc: Global,
+    arguments: &[String],
+    source: &mut S,
+    sink: &mut O,
+) -> u8 {
     let mut words = Vec::new(alloc);
     for argument in arguments {
         if words.push(argument.as_str()).is_err() {

@@ -283,7 +283,10 @@ impl Run {
         Ok(())
     }
 
-    fn has_ended<const ACKS: usize, const IN: usize, const ROUTES: usize>(&self, core: &Core<ACKS, IN, ROUTES>) -> bool
+    fn has_ended<const ACKS: usize, const IN: usize, const ROUTES: usize>(
+        &self,
+        core: &Core<ACKS, IN, ROUTES>,
+    ) -> bool
         requires sound { IsSound core.now self.now }
         ensures { (lines : List Line) → result ≡ replayed.has_ended (world core.now self.now lines) }
     {
@@ -314,7 +317,11 @@ fn is_leave(cause: &Cause) -> bool
     ensures { result ≡ leaves_by 0 cause.now }
 {
     match cause {
-        Cause::Take { task, request: Request::Leave, .. } => *task == 0,
+        Cause::Take {
+            task,
+            request: Request::Leave,
+            ..
+        } => *task == 0,
         Cause::Take { .. } => false,
         Cause::Opened => false,
         Cause::Arrived { .. } => false,

@@ -7,17 +7,16 @@ ghost use Rattle.agent_journal.specs.Setups.{is_client};
 ghost use Rattle.agent_main.specs.Answers.{Answers, IsPlain, answer, replay_answer};
 ghost use Rattle.agent_main.specs.Commands.{setup_of};
 
+use crate::finish::finish;
+use crate::replay::Run;
+use crate::report::report_of;
+use crate::words::RunWords;
 use agent_core::Core;
 use agent_journal::{Script, Setup};
 use agent_link::{Page, Sink, Tape};
 use list_types::Copied;
 use mqtt_packet::NoMemory;
 use std::alloc::{AllocError, Global};
-
-use crate::finish::finish;
-use crate::replay::Run;
-use crate::report::report_of;
-use crate::words::RunWords;
 
 /// Replays a script against a tape and writes the journal, the task's line and the last line.
 /// Answers the exit status: that of how the agent ended, or 7 where memory ran out, or 8 where the

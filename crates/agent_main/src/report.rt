@@ -10,7 +10,9 @@ ghost use Rattle.agent_journal.specs.Texts.{journal_text, entry_text};
 ghost use Rattle.agent_journal.specs.Texts.{last_line};
 ghost use Rattle.agent_main.specs.Answers.{task_line, report};
 
-use agent_journal::{Cause, Effect, Ending, Entry, Journal, Part, Request, write_entry, write_parts};
+use agent_journal::{
+    Cause, Effect, Ending, Entry, Journal, Part, Request, write_entry, write_parts,
+};
 use agent_link::{Fault, Page, Sink};
 use std::alloc::Global;
 
@@ -65,7 +67,14 @@ fn write_last_line<O: Sink>(out: &mut O, ending: Ending) -> Result<(), Fault>
     ensures text { Writes (O.written out.old) (O.written out.new) result (last_line ending) }
     ensures cause { Counted (IsErrOf result Fault.Failed) (O.faults out.old) (O.faults out.new) }
 {
-    write_parts(out, &[Part::Plain(ending.word().as_bytes()), Part::Count(ending.code()), Part::Plain(b"\n")])
+    write_parts(
+        out,
+        &[
+            Part::Plain(ending.word().as_bytes()),
+            Part::Count(ending.code()),
+            Part::Plain(b"\n"),
+        ],
+    )
 }
 
 #[tactic(auto, using(crate::proofs::Tallies::commands_on, crate::proofs::Tallies::commands_all))]
@@ -85,7 +94,11 @@ fn commands_by(cause: &Cause) -> u8
     ensures small { result < 2 }
 {
     match cause {
-        Cause::Take { task: 0, request, .. } => match request {
+        Cause::Take {
+            task: 0,
+            request,
+            ..
+        } => match request {
             Request::Leave => 0,
             Request::Publish { .. } => 1,
             Request::Subscribe { .. } => 1,

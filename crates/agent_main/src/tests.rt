@@ -7,9 +7,11 @@ use std::test::Fail;
 
 const PUBLISHED: &[u8] = b"tasks 1\n0 publish 0 a/b 6869\ntape\nopen\nhear 20020000\n";
 
-const PRINTED: &[u8] = b"@0 opened\n  send 100f00044d5154540400003c0003646576\n@0 arrived 20020000\n@0 take 0 0 publish 0 a/b 6869\n  send 30070003612f626869\n  done 0 0 done\n@0 take 0 1 leave\n@0 finish\n  send e000\ntask 0 sent 1 got 1 messages 0\nok\n";
+const PRINTED: &[u8] =
+    b"@0 opened\n  send 100f00044d5154540400003c0003646576\n@0 arrived 20020000\n@0 take 0 0 publish 0 a/b 6869\n  send 30070003612f626869\n  done 0 0 done\n@0 take 0 1 leave\n@0 finish\n  send e000\ntask 0 sent 1 got 1 messages 0\nok\n";
 
-const LEFT: &[u8] = b"@0 opened\n  send 100f00044d5154540400003c0003646576\n@0 arrived 20020000\n@0 take 0 0 leave\n@0 finish\n  send e000\ntask 0 sent 0 got 0 messages 0\nok\n";
+const LEFT: &[u8] =
+    b"@0 opened\n  send 100f00044d5154540400003c0003646576\n@0 arrived 20020000\n@0 take 0 0 leave\n@0 finish\n  send e000\ntask 0 sent 0 got 0 messages 0\nok\n";
 
 #[test]
 fn each_command_has_its_text_and_status(rt: HostRuntime) -> Result<(), Fail> {
@@ -17,10 +19,30 @@ fn each_command_has_its_text_and_status(rt: HostRuntime) -> Result<(), Fail> {
     let words = ["replay", "--client", "dev"];
     for (words, text, want, status) in [
         (words.as_slice(), PUBLISHED, PRINTED, 0),
-        (words.as_slice(), b"tasks 1\ntape\nopen\nhear 20020000\n".as_slice(), LEFT, 0),
-        (words.as_slice(), b"tasks 1\n0 ping\ntape\nopen\nhear 20020000\n".as_slice(), b"fault script 2\n".as_slice(), 2),
-        (words.as_slice(), b"tasks 1\ntape\nopen\nhear 2002\n".as_slice(), b"fault script 4\n".as_slice(), 2),
-        (words.as_slice(), b"".as_slice(), b"fault script 1\n".as_slice(), 2),
+        (
+            words.as_slice(),
+            b"tasks 1\ntape\nopen\nhear 20020000\n".as_slice(),
+            LEFT,
+            0,
+        ),
+        (
+            words.as_slice(),
+            b"tasks 1\n0 ping\ntape\nopen\nhear 20020000\n".as_slice(),
+            b"fault script 2\n".as_slice(),
+            2,
+        ),
+        (
+            words.as_slice(),
+            b"tasks 1\ntape\nopen\nhear 2002\n".as_slice(),
+            b"fault script 4\n".as_slice(),
+            2,
+        ),
+        (
+            words.as_slice(),
+            b"".as_slice(),
+            b"fault script 1\n".as_slice(),
+            2,
+        ),
         ([].as_slice(), PUBLISHED, b"fault words\n".as_slice(), 1),
     ] {
         let mut source = MemSource::new(text.to_vec(alloc)?, Vec::new(alloc));

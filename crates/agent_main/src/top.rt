@@ -9,14 +9,13 @@ ghost use Rattle.agent_main.specs.Answers as answers;
 ghost use Rattle.agent_main.specs.Answers.{Answers};
 ghost use Rattle.agent_main.specs.Commands.{words_of};
 
+use crate::finish::finish;
+use crate::replay_call::replay_call;
+use crate::words::{RunWords, WordsFault, read_words};
 use agent_journal::{Part, Script, ScriptFault, read_script, write_parts};
 use agent_link::{Fault, Sink, Source, TapeFault, read_all, read_tape};
 use plain_text::line_at;
 use std::alloc::Global;
-
-use crate::finish::finish;
-use crate::replay_call::replay_call;
-use crate::words::{RunWords, WordsFault, read_words};
 
 /// How many bytes a source may have.
 const SOURCE_LIMIT: usize = 1_048_576;
@@ -91,7 +90,14 @@ fn run_script<O: Sink>(alloc: Global, words: &RunWords, text: &[u8], out: &mut O
 }
 
 #[tactic(auto, using(crate::proofs::Told::tape_told))]
-fn run_tape<O: Sink>(alloc: Global, words: &RunWords, text: &[u8], script: &Script, at: usize, out: &mut O) -> u8
+fn run_tape<O: Sink>(
+    alloc: Global,
+    words: &RunWords,
+    text: &[u8],
+    script: &Script,
+    at: usize,
+    out: &mut O,
+) -> u8
     requires client { is_client words.now.client ≡ true }
     requires one_task { script.now.tasks ≡ 1 }
     requires few { (length script.now.lines ≤ length text.now) × (length text.now ≤ 1048576) }
@@ -135,7 +141,14 @@ fn refuse_line<O: Sink>(out: &mut O, number: u64) -> u8
     ensures sink_fault { result ≡ 8 → Rose (O.faults out.old) (O.faults out.new) }
     ensures one_of { (result ≡ 2) ⊎ (result ≡ 7) ⊎ (result ≡ 8) }
 {
-    match write_parts(out, &[Part::Plain(b"fault script "), Part::Number(number), Part::Plain(b"\n")]) {
+    match write_parts(
+        out,
+        &[
+            Part::Plain(b"fault script "),
+            Part::Number(number),
+            Part::Plain(b"\n"),
+        ],
+    ) {
         Ok(()) => 2,
         Err(Fault::Failed) => 8,
         Err(Fault::NoMemory) => 7,

@@ -69,7 +69,12 @@ pub fn read_words(alloc: Global, words: &[&str]) -> Result<RunWords, WordsFault>
     }
 }
 
-fn read_replay(alloc: Global, command: &str, option: &str, client: &str) -> Result<RunWords, WordsFault>
+fn read_replay(
+    alloc: Global,
+    command: &str,
+    option: &str,
+    client: &str,
+) -> Result<RunWords, WordsFault>
     ensures words { TellsWords result (commands.three_words command.now option.now client.now) }
     ensures client { IfOk result (λ words. setups.is_client words.client ≡ true) }
 {

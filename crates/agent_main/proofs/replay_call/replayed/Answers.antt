@@ -1,8 +1,8 @@
-use Rattle.std.proofs.Common.{◌≡◌, Some, reverse, sym, ap, ◌∙◌}
+use Rattle.std.proofs.Common.{◌≡◌, Some, sym, ap, ◌∙◌}
 use Rattle.agent_journal.specs.Endings.{ending_of, status}
 use Rattle.agent_main.specs.Commands.{setup_of}
-use Rattle.agent_main.specs.Answers.{Answer, answer, report}
-use Rattle.agent_main.specs.Replayed.{World, begun, finished}
+use Rattle.agent_main.specs.Answers.{answer, report}
+use Rattle.agent_main.specs.Replayed.{begun, finished}
 use Rattle.agent_main.specs.Runs.{world}
 use Rattle.agent_main.proofs.Answered.{answered, start_is}
 use Rattle.agent_main.proofs.replay_call.replayed.Goals as goal
@@ -13,10 +13,10 @@ returns-in-Ok-report_of-clause-answer g c =
     let script = c.args.script.now in
     let w = world c.run.new.core c.run.new.self script.lines in
     let first : world c.in-Ok.core c.new-run.result script.lines ≡ begun (setup_of words script.tasks) words.tick script.lines c.args.tape =
-        start_is c.in-Ok.core c.new-run.result (setup_of words script.tasks) words.tick script.lines c.args.tape (c.in-Ok.ensures.setup ∙ c.in_ok-setup.ensures) c.new-run.ensures.journal
-        c.new-run.ensures.link c.new-run.ensures.clock c.new-run.ensures.fresh.0 in
+    start_is c.in-Ok.core c.new-run.result (setup_of words script.tasks) words.tick script.lines c.args.tape (c.in-Ok.ensures.setup ∙ c.in_ok-setup.ensures) c.new-run.ensures.journal
+    c.new-run.ensures.link c.new-run.ensures.clock c.new-run.ensures.fresh.0 in
     let over : w ≡ finished (begun (setup_of words script.tasks) words.tick script.lines c.args.tape) = c.in_ok-run.ensures.finished ∙ ap finished first in
     let ended : Some c.in-Some.ending ≡ ending_of w.setup w.past = sym c.in-Some.is ∙ c.in_ok-run.ensures.sound.ending_is in
     let told : answer c.status.result c.in-Ok-report_of.page ≡ answer (status c.in-Some.ending) (report w.past c.in-Some.ending) =
-        λ i. record { text = c.in-Ok-report_of.ensures i; status = c.status.ensures i } in
+    λ i. record { text = c.in-Ok-report_of.ensures i; status = c.status.ensures i } in
     told ∙ answered words script c.args.tape w c.in-Some.ending over ended

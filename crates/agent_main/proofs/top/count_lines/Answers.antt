@@ -1,4 +1,4 @@
-use Rattle.std.proofs.Common.{◌≡◌, ◌≤◌, length, arith}
+use Rattle.std.proofs.Common.{◌≤◌, length, arith}
 use Rattle.agent_main.proofs.Told.{lines_counted}
 use Rattle.agent_main.proofs.top.count_lines.Goals as goal
 

@@ -1,5 +1,5 @@
 -- The rounds so far, and behind them those that are left, are all of them.
-use Rattle.std.proofs.Common.{◌≡◌, ◌-◌, ◌+◌, ◌≤◌, length, reverse}
+use Rattle.std.proofs.Common.{◌≡◌, ◌-◌, ◌≤◌, reverse}
 use Rattle.agent_journal.specs.Readings.{takes_of}
 use Rattle.agent_main.specs.Runs.{world, IsSound}
 use Rattle.agent_main.specs.Replayed.{after}
