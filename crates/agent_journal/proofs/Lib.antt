@@ -5,3 +5,4 @@ pub mod ScriptLoops
 pub mod Pieces
 pub mod Lawful
 pub mod FewLines
+pub mod Once

@@ -27,7 +27,7 @@ use Rattle.agent_journal.specs.Rows.{Row, when, to, row_of, cause_row, opened_ro
 use Rattle.agent_journal.specs.Histories.{effects_of}
 use Rattle.agent_journal.specs.Parts.{IsSoundEffect, IsSoundCause, IsSoundEntry}
 
-both : (a b : Bool) → (a && b) ≡ true → (a ≡ true) × (b ≡ true)
+pub both : (a b : Bool) → (a && b) ≡ true → (a ≡ true) × (b ≡ true)
 both true true e = (refl, refl)
 both true false e = absurd (cc e)
 both false b e = absurd (cc e)
@@ -88,7 +88,7 @@ publish_sound topic payload valid =
     fits (publish AtMostOnce topic payload) (joined (is_string topic) true (string_of topic (omega arith) one.0 (no_zero is_name_byte refl topic name.1)) refl)
     (omega (arith, length-append (topic ++ []) payload, length-append topic []))
 
-some_when : (b : Bool) (row : Option Row) → is_some (when b row) ≡ true → (b ≡ true) × (is_some row ≡ true)
+pub some_when : (b : Bool) (row : Option Row) → is_some (when b row) ≡ true → (b ≡ true) × (is_some row ≡ true)
 some_when true row some = (refl, some)
 some_when false row some = absurd (cc some)
 
@@ -217,7 +217,7 @@ in_time : (s : Setup) (r : Readings) (at : ℕ) (cause : Cause) → is_some (row
 unfolding row_of
 in_time s r at cause some = (some_when (nat_le r.last_time at) (cause_row s r at cause) some).1
 
-has_row : (row : Option Row) (effects : List Effect) → effects_of row ≡ Some effects → is_some row ≡ true
+pub has_row : (row : Option Row) (effects : List Effect) → effects_of row ≡ Some effects → is_some row ≡ true
 has_row None effects e = absurd (cc e)
 has_row (Some row) effects e = refl
 

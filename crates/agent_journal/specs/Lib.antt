@@ -11,3 +11,4 @@ pub mod Scripts
 pub mod ScriptReading
 pub mod Parts
 pub mod Laws
+pub mod Promises

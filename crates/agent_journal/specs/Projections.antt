@@ -1,5 +1,5 @@
 -- What a journal says of one task, in the order of its entries.
-use Rattle.std.specs.Prelude.{◌≡◌, ℕ, ◌+◌, Bool, false, ◌&&◌, not, ◌==◌, List, [], ◌∷◌, ◌++◌, if◌then◌else◌, nat_lt, count_by}
+use Rattle.std.specs.Prelude.{◌≡◌, ℕ, ◌+◌, ◌<◌, ◌≤◌, Bool, false, ◌&&◌, not, ◌==◌, List, [], ◌∷◌, ◌++◌, if◌then◌else◌, count_by}
 use Rattle.agent_journal.specs.declared.request.Request.{Request}
 use Rattle.agent_journal.specs.declared.entry.Cause.{Cause}
 use Rattle.agent_journal.specs.declared.entry.Cause.TheVariants as c
@@ -63,8 +63,12 @@ abbrev pub completions_of : ℕ → ℕ → List Entry → ℕ
 completions_of t seq [] = 0
 completions_of t seq (e ∷ past) = completions_of t seq past + count_by (completes t seq) e.effects
 
--- Each command that was taken has exactly one completion, and what wasn't taken has none. This holds at each moment, so no
--- completion comes before its Take.
-abbrev pub CompletesOnce : List Entry → Type 0
-CompletesOnce [] = Unit {0}
-CompletesOnce (e ∷ past) = ((t seq : ℕ) → completions_of t seq (e ∷ past) ≡ (if nat_lt seq (commands_of t (e ∷ past)) then 1 else 0)) × CompletesOnce past
+-- At no moment is a command completed that wasn't taken by then.
+abbrev pub NoneEarly : List Entry → Type 0
+NoneEarly [] = Unit {0}
+NoneEarly (e ∷ past) = ((t seq : ℕ) → commands_of t (e ∷ past) ≤ seq → completions_of t seq (e ∷ past) ≡ 0) × NoneEarly past
+
+-- Each command that was taken has exactly one completion, and none comes before its Take.
+pub record CompletesOnce (past : List Entry) : Type 0 where
+  pub one : (t seq : ℕ) → seq < commands_of t past → completions_of t seq past ≡ 1
+  pub none_early : NoneEarly past

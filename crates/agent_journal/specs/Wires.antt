@@ -32,8 +32,12 @@ packet_in (f.Done task seq outcome) = []
 packet_in (f.Pass task message) = []
 packet_in (f.Closed task) = []
 
-abbrev pub sends : Entry → List Packet
-sends e = flat_map packet_in e.effects
+-- the packets that these effects send, and their bytes
+abbrev pub sends : List Effect → List Packet
+sends effects = flat_map packet_in effects
+
+abbrev pub sent_in : List Effect → List ℕ
+sent_in effects = flat_map spelling (sends effects)
 
 abbrev pub arrives : Cause → List Packet
 arrives c.Opened = []
@@ -46,7 +50,7 @@ arrives c.Finish = []
 
 -- the bytes that an entry sends, and those of the packet that arrived with it
 abbrev pub sent_by : Entry → List ℕ
-sent_by e = flat_map spelling (sends e)
+sent_by e = sent_in e.effects
 
 abbrev pub heard_by : Entry → List ℕ
 heard_by e = flat_map spelling (arrives e.cause)
@@ -61,7 +65,7 @@ heard entries = flat_map heard_by entries
 abbrev pub IsCutShort : List Entry → List ℕ → Type 0
 IsCutShort entries taken =
     (before : List Entry) × (last : Entry) × (broke : Entry) × (after : List Entry) × (entries ≡ before ++ last ∷ broke ∷ after) × (broke.cause ≡ c.Broke Fault)
-    × (flat_map sends (broke ∷ after) ≡ []) × (k : ℕ) × (k < length (sent_by last)) × (taken ≡ sent before ++ take k (sent_by last))
+    × (sent (broke ∷ after) ≡ []) × (k : ℕ) × (k < length (sent_by last)) × (taken ≡ sent before ++ take k (sent_by last))
 
 -- What a connection took is the spelling of what its entries send, or a front of it where the connection broke.
 abbrev pub Wired : List Entry → List ℕ → Type 0

@@ -3,3 +3,4 @@ pub mod Writing
 pub mod Gave
 pub mod Tapes
 pub mod Plays
+pub mod Items

@@ -9,8 +9,9 @@ use Rattle.plain_text.specs.Lines.{lines_of, is_passed}
 use Rattle.agent_link.specs.declared.tape.Item.{Item}
 use Rattle.agent_journal.specs.declared.script.Script.{Script}
 use Rattle.agent_journal.specs.Scripts.{Read, script_of, script_from, script_with, script_or_number, tasks_of, lines_from}
-use Rattle.agent_main.specs.declared.words.RunWords.{RunWords}
-use Rattle.agent_main.specs.Answers.{Answers, source_answer, script_answer, tape_answer, bad_line, too_long, no_reading, words_answer}
+use Rattle.replay_run.specs.declared.words.RunWords.{RunWords}
+use Rattle.replay_run.specs.Answers.{Answers}
+use Rattle.agent_main.specs.Answers.{source_answer, script_answer, tape_answer, bad_line, too_long, no_reading, words_answer}
 
 -- all of the source was read
 told_whole : (a b : Option (List ℕ)) (bytes : List ℕ) (words : RunWords) (result : ℕ) (old new : Option (List ℕ)) → Consumes a b bytes → (length bytes ≤ 1048576 → IsAtEnd b) → length bytes ≤ 1048576

@@ -1,6 +1,6 @@
 -- What a reader's answer says of the command that the definition reads.
 use Rattle.std.specs.Prelude.{◌≡◌, Option, Some, None, Result, Ok, Err}
-use Rattle.agent_main.specs.declared.words.RunWords.{RunWords}
+use Rattle.replay_run.specs.declared.words.RunWords.{RunWords}
 use Rattle.agent_main.specs.declared.words.WordsFault.{WordsFault}
 use Rattle.agent_main.specs.declared.words.WordsFault.TheVariants as faults
 

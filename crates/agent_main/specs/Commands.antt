@@ -1,10 +1,9 @@
 -- Which words have a reading.
 use Rattle.std.specs.Prelude.{ℕ, Bool, false, ◌&&◌, not, ◌==◌, List, [], ◌∷◌, Option, Some, None, if◌then◌else◌, codes}
 use Rattle.std.specs.Str.{bytes_eq}
-use Rattle.agent_journal.specs.declared.setup.Setup.{Setup}
 use Rattle.agent_journal.specs.Setups.{is_client}
-use Rattle.agent_main.specs.declared.words.RunWords.{RunWords}
-use Rattle.agent_main.specs.declared.words.Size.TheVariants.{Usual}
+use Rattle.replay_run.specs.declared.words.RunWords.{RunWords}
+use Rattle.replay_run.specs.declared.words.Size.TheVariants.{Usual}
 
 -- a replay with this client, all else as it is where no option says otherwise
 abbrev pub replay_of : List ℕ → RunWords
@@ -26,7 +25,3 @@ words_of (a ∷ []) = None
 words_of (a ∷ b ∷ []) = None
 words_of (a ∷ b ∷ c ∷ []) = three_words a b c
 words_of (a ∷ b ∷ c ∷ d ∷ words) = None
-
--- the agent of a run
-abbrev pub setup_of : RunWords → ℕ → Setup
-setup_of words tasks = record { to = words.to; client = words.client; keep_alive = words.keep_alive; reopen = words.reopen; wipe = words.wipe; tasks = tasks }

@@ -1,6 +1,3 @@
 pub mod Answers
 pub mod CommandReading
 pub mod Commands
-pub mod Replayed
-pub mod Runs
-pub mod Laws

@@ -1,11 +1,6 @@
 //! Domeweave: an MQTT 3.1.1 agent for firmware developers.
 #![tactic(auto)]
 
-mod finish;
-mod laws;
-mod replay;
-mod replay_call;
-mod report;
 mod std_sink;
 mod std_source;
 mod top;

@@ -6,15 +6,15 @@ ghost use Rattle.agent_link.specs.Counts.{Rose};
 ghost use Rattle.agent_link.specs.Tape.{tape_in};
 ghost use Rattle.agent_journal.specs.Setups.{is_client};
 ghost use Rattle.agent_main.specs.Answers as answers;
-ghost use Rattle.agent_main.specs.Answers.{Answers};
+ghost use Rattle.replay_run.specs.Answers.{Answers};
+
 ghost use Rattle.agent_main.specs.Commands.{words_of};
 
-use crate::finish::finish;
-use crate::replay_call::replay_call;
-use crate::words::{RunWords, WordsFault, read_words};
+use crate::words::{WordsFault, read_words};
 use agent_journal::{Part, Script, ScriptFault, read_script, write_parts};
 use agent_link::{Fault, Sink, Source, TapeFault, read_all, read_tape};
 use plain_text::line_at;
+use replay_run::{RunWords, finish, replay_call};
 use std::alloc::Global;
 
 /// How many bytes a source may have.

@@ -7,36 +7,8 @@ ghost use Rattle.agent_main.specs.Commands as commands;
 ghost use Rattle.agent_main.specs.CommandReading.{TellsWords};
 
 use list_types::Text;
+use replay_run::{RunWords, Size};
 use std::alloc::{AllocError, Global};
-
-/// How large the parts of an agent are.
-#[derive(Clone, Copy, Debug, PartialEq, Eq)]
-pub enum Size {
-    /// Two of each, to see what happens where there is no room.
-    Tiny,
-    /// What a device has room for.
-    Usual,
-}
-
-/// The options of a run.
-#[derive(Debug, Drop, PartialEq, Eq)]
-pub struct RunWords {
-    /// The address of the broker. A replay has none.
-    pub to: Text,
-    /// The client identifier.
-    pub client: Text,
-    /// In seconds.
-    pub keep_alive: u16,
-    /// How often a broken connection is opened again.
-    pub reopen: u32,
-    /// Whether an old session is wiped first.
-    pub wipe: bool,
-    /// Milliseconds from one round of a replay to the next.
-    pub tick: u64,
-    pub size: Size,
-    /// The thing whose shadow and jobs the script's lines speak of.
-    pub thing: Option<Text>,
-}
 
 /// Why words aren't a command.
 #[derive(Clone, Copy, Debug, PartialEq, Eq)]

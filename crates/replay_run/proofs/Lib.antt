@@ -1,0 +1,11 @@
+pub mod Answered
+pub mod Entered
+pub mod Legal
+pub mod Lines
+pub mod Rounds
+pub mod Tallies
+pub mod DueRows
+pub mod Histories
+pub mod Scripts
+pub mod Wires
+pub mod Sends

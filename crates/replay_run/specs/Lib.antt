@@ -1,0 +1,5 @@
+pub mod Answers
+pub mod Laws
+pub mod Replayed
+pub mod Runs
+pub mod Words
