@@ -82,6 +82,12 @@ EachTied Tie [] (bytes ∷ wires) = ⊥
 EachTied Tie (entries ∷ others) [] = ⊥
 EachTied Tie (entries ∷ others) (bytes ∷ wires) = Tie entries bytes × EachTied Tie others wires
 
+-- each connection was given a front of these, connection by connection
+abbrev pub AreFronts : List (List ℕ) → List (List ℕ) → Type 0
+AreFronts [] wires = Unit {0}
+AreFronts (front ∷ fronts) [] = ⊥
+AreFronts (front ∷ fronts) (wire ∷ wires) = ((rest : List ℕ) × (wire ≡ front ++ rest)) × AreFronts fronts wires
+
 -- each entry's time is one of these readings
 abbrev pub AreReadings : List ℕ → List Entry → Type 0
 AreReadings readings [] = Unit {0}

@@ -1,5 +1,5 @@
 -- The tape of a broker: what each connection gives, line by line.
-use Rattle.std.specs.Prelude.{ℕ, zero, suc, ◌+◌, min, Bool, false, List, [], ◌∷◌, length, drop, Option, Some, None, Result, Ok, Err, if◌then◌else◌, nat_lt, codes}
+use Rattle.std.specs.Prelude.{ℕ, zero, suc, ◌+◌, min, Bool, false, List, [], ◌∷◌, ◌++◌, length, drop, Option, Some, None, Result, Ok, Err, if◌then◌else◌, nat_lt, codes}
 use Rattle.std.specs.Str.{bytes_eq}
 use Rattle.plain_text.specs.Lines.{lines_of, is_passed}
 use Rattle.agent_link.specs.declared.tape.Item.{Item}
@@ -49,6 +49,18 @@ tape_in lines = tape_from Empty 1 lines
 
 abbrev pub tape_of : List ℕ → Result (List Item) ℕ
 tape_of text = tape_in (lines_of text)
+
+-- the bytes that items give up to the next opening
+abbrev pub gives : List Item → List ℕ
+gives [] = []
+gives (items.Open ∷ rest) = []
+gives (items.Hear bytes ∷ rest) = bytes ++ gives rest
+
+-- the bytes that each connection of a tape has to give
+abbrev pub wires : List Item → List (List ℕ)
+wires [] = []
+wires (items.Open ∷ rest) = gives rest ∷ wires rest
+wires (items.Hear bytes ∷ rest) = wires rest
 
 -- A link that a tape plays: the items that are left, whether a connection is there, and what the traits tell.
 pub record Playing : Type 0 where

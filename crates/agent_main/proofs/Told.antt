@@ -5,10 +5,10 @@ use Rattle.std.proofs.KnownBytes.{Consumes-whole}
 use Rattle.std.proofs.lemmas.Bool.{lt-ltb, le-ltb, cases_lt}
 use Rattle.std.proofs.lemmas.List.{drop_all}
 use mathlib.Core.Logic.{inl, inr}
-use Rattle.plain_text.specs.Lines.{lines_of, is_passed}
+use Rattle.plain_text.specs.Lines.{lines_of}
 use Rattle.agent_link.specs.declared.tape.Item.{Item}
 use Rattle.agent_journal.specs.declared.script.Script.{Script}
-use Rattle.agent_journal.specs.Scripts.{Read, script_of, script_from, script_with, script_or_number, tasks_of, lines_from}
+use Rattle.agent_journal.specs.Scripts.{script_of}
 use Rattle.replay_run.specs.declared.words.RunWords.{RunWords}
 use Rattle.replay_run.specs.Answers.{Answers}
 use Rattle.agent_main.specs.Answers.{source_answer, script_answer, tape_answer, bad_line, too_long, no_reading, words_answer}
@@ -68,37 +68,6 @@ line_told words text number result old new short is h = script_told words text (
 pub tape_told : (words : RunWords) (before number : ℕ) (script : Script) (tape : Result (List Item) ℕ) (result : ℕ) (old new : Option (List ℕ)) → tape ≡ Err number
     → Answers result old new (bad_line (before + number)) → Answers result old new (tape_answer words before script tape)
 tape_told words before number script tape result old new is h = subst (λ (t : Result (List Item) ℕ). Answers result old new (tape_answer words before script t)) (sym is) h
-
--- a script has one task today
-tasks_one : (b : Bool) (tasks : ℕ) → cond b (Some 1) None ≡ Some tasks → tasks ≡ 1
-tasks_one true tasks e = cc
-tasks_one false tasks e = absurd (cc e)
-
-abbrev tasks_in : ℕ → Result (Script × List (List ℕ)) ℕ → ℕ
-tasks_in other (Ok read) = read.0.tasks
-tasks_in other (Err n) = other
-
-with_one : (tasks : ℕ) (read : Result Read ℕ) (script : Script) (others : List (List ℕ)) → script_with tasks read ≡ Ok (script, others) → script.tasks ≡ tasks
-with_one tasks (Ok read) script others e = sym (ap (tasks_in tasks) e)
-with_one tasks (Err n) script others e = absurd (cc e)
-
-or_one : (number : ℕ) (tasks : Option ℕ) (read : Result Read ℕ) (script : Script) (others : List (List ℕ)) → ((n : ℕ) → tasks ≡ Some n → n ≡ 1) → script_or_number number tasks read ≡ Ok (script, others) → script.tasks ≡ 1
-or_one number None read script others one e = absurd (cc e)
-or_one number (Some tasks) read script others one e = with_one tasks read script others e ∙ one tasks refl
-
-by_passed : (passed : Bool) (number : ℕ) (tasks : Option ℕ) (read : Result Read ℕ) (rest : Result (Script × List (List ℕ)) ℕ) (script : Script) (others : List (List ℕ))
-    → ((n : ℕ) → tasks ≡ Some n → n ≡ 1) → (rest ≡ Ok (script, others) → script.tasks ≡ 1) → cond passed rest (script_or_number number tasks read) ≡ Ok (script, others) → script.tasks ≡ 1
-by_passed true number tasks read rest script others one later e = later e
-by_passed false number tasks read rest script others one later e = or_one number tasks read script others one e
-
-one_from : (number : ℕ) (lines : List (List ℕ)) (script : Script) (others : List (List ℕ)) → script_from number lines ≡ Ok (script, others) → script.tasks ≡ 1
-unfolding script_from
-one_from number [] script others e = absurd (cc e)
-one_from number (line ∷ lines) script others e =
-    by_passed (is_passed line) number (tasks_of line) (lines_from (number + 1) lines) (script_from (number + 1) lines) script others (λ n. tasks_one _ n) (one_from (number + 1) lines script others) e
-
-pub one_task : (text : List ℕ) (script : Script) (others : List (List ℕ)) → script_of text ≡ Ok (script, others) → script.tasks ≡ 1
-one_task text script others e = one_from 1 (lines_of text) script others e
 
 -- a line more was counted
 pub line_counted : (text line : List ℕ) (count at next all : ℕ) → count + length (lines_of (drop at text)) ≡ all → lines_of (drop at text) ≡ line ∷ lines_of (drop next text)

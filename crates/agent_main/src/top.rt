@@ -1,6 +1,6 @@
 //! The whole program, over any source and any sink.
 
-ghost use Rattle.std.specs.Prelude.{◌≡◌, ◌≢◌, ◌+◌, ◌-◌, ◌<◌, ◌≤◌, ◌⊎◌, length, drop, map, true, None, IfSome};
+ghost use Rattle.std.specs.Prelude.{◌≡◌, ◌≢◌, ◌+◌, ◌-◌, ◌<◌, ◌≤◌, ◌⊎◌, length, drop, map, true, Some, None, IfSome};
 ghost use Rattle.plain_text.specs.Lines.{lines_of};
 ghost use Rattle.agent_link.specs.Counts.{Rose};
 ghost use Rattle.agent_link.specs.Tape.{tape_in};
@@ -8,7 +8,9 @@ ghost use Rattle.agent_journal.specs.Setups.{is_client};
 ghost use Rattle.agent_main.specs.Answers as answers;
 ghost use Rattle.replay_run.specs.Answers.{Answers};
 
+ghost use Rattle.replay_run.specs.declared.words.RunWords.{RunWords};
 ghost use Rattle.agent_main.specs.Commands.{words_of};
+ghost use Rattle.agent_main.specs.Headline.{HasRun, PrintsReplay};
 
 use crate::words::{WordsFault, read_words};
 use agent_journal::{Part, Script, ScriptFault, read_script, write_parts};
@@ -23,11 +25,14 @@ const SOURCE_LIMIT: usize = 1_048_576;
 /// Runs the command that the words spell, and answers its exit status: 0 where all was done, 1
 /// where the words have no reading, 2 where the source has a bad line or too many bytes, 7 where
 /// memory ran out, 8 where the sink failed and 9 where the source failed.
-#[tactic(auto, using(crate::proofs::Told::words_told, crate::proofs::Told::none_told))]
+#[tactic(auto, using(crate::proofs::Told::words_told, crate::proofs::Told::none_told, crate::proofs::Headline::promise_kept, crate::proofs::Headline::no_promise, crate::proofs::Headline::no_run))]
 pub fn top<S: Source, O: Sink>(alloc: Global, words: &[&str], script: &mut S, out: &mut O) -> u8
     // What is written and answered is a function of the words and the source's bytes.
     ensures answer { IfSome (S.left script.old) (λ text. result ≢ 9 →
         Answers result (O.written out.old) (O.written out.new) (answers.whole_answer (map (λ word. word.now) words.now) text)) }
+    // Where an agent ran, what is written is one legal history of it.
+    ensures history { IfSome (S.left script.old) (λ text. HasRun result → (w : RunWords) → words_of (map (λ word. word.now) words.now) ≡ Some w →
+        PrintsReplay w text result (O.written out.old) (O.written out.new)) }
     ensures no_reading { words_of (map (λ word. word.now) words.now) ≡ None →
         Answers result (O.written out.old) (O.written out.new) answers.no_reading }
     ensures words { result ≡ 1 → words_of (map (λ word. word.now) words.now) ≡ None }
@@ -73,7 +78,7 @@ fn run_text<O: Sink>(alloc: Global, words: &RunWords, text: &[u8], out: &mut O) 
     }
 }
 
-#[tactic(auto, using(crate::proofs::Told::script_told, crate::proofs::Told::line_told, crate::proofs::Told::one_task))]
+#[tactic(auto, using(crate::proofs::Told::script_told, crate::proofs::Told::line_told, replay_run::proofs::Scripts::one_task))]
 fn run_script<O: Sink>(alloc: Global, words: &RunWords, text: &[u8], out: &mut O) -> u8
     requires client { is_client words.now.client ≡ true }
     requires few { length text.now ≤ 1048576 }

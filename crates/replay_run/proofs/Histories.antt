@@ -9,7 +9,7 @@ use Rattle.mqtt_packet.specs.Spelling.{groups, spelling}
 use Rattle.agent_link.specs.declared.tape.Item.{Item}
 use Rattle.agent_link.specs.declared.tape.Item.TheVariants as items
 use Rattle.agent_link.specs.Clocks.{step_reading, step_readings}
-use Rattle.agent_link.specs.Tape.{accepting}
+use Rattle.agent_link.specs.Tape.{accepting, wires}
 use Rattle.agent_link.specs.Wires.{onto_last}
 use Rattle.agent_journal.specs.declared.request.Request.{Request}
 use Rattle.agent_journal.specs.declared.request.Request.TheVariants as requests
@@ -24,18 +24,20 @@ use Rattle.agent_journal.specs.declared.script.Script.{Script}
 use Rattle.agent_journal.specs.declared.setup.Setup.{Setup}
 use Rattle.agent_journal.specs.declared.setup.Phase.{Phase}
 use Rattle.agent_journal.specs.declared.setup.Phase.TheVariants.{Down, Opening, Up, Spilled, Off}
-use Rattle.agent_journal.specs.Endings.{is_off}
+use Rattle.agent_journal.specs.declared.ending.Ending.{Ending}
+use Rattle.agent_journal.specs.Endings.{is_off, ending_by, ending_of}
 use Rattle.agent_journal.specs.Histories.{phase_of, phase_by, readings, row, due_by, IsLegalPast, IsWholePast}
 use Rattle.agent_journal.specs.Projections.{requests_of}
 use Rattle.agent_journal.specs.Promises.{IsHistoryOf}
 use Rattle.agent_journal.specs.Readings.{last_time_of, takes_of, has_left, pending_of, accepted_of}
 use Rattle.agent_journal.specs.Rows.{Row, to, connect, publish}
 use Rattle.agent_journal.specs.Scripts.{asked, asked_in, asked_by}
-use Rattle.agent_journal.specs.Wires.{sent_by, heard_by, is_opened, AreReadings}
+use Rattle.agent_journal.specs.Wires.{sent_by, heard_by, is_opened, AreFronts, AreReadings}
 use Rattle.agent_journal.proofs.Once.{commands_complete_once}
 use Rattle.replay_run.specs.Laws.{ReplaysAreHistories, IsTiedHistory}
 use Rattle.replay_run.specs.Replayed.{World, entry, with_entry, entered, entered_by, opens, receives, takes, takes_by, takes_step, acts_in, acts_by, acts, round, has_ended, after, begun, finished}
 use Rattle.replay_run.proofs.Legal.{legal_after}
+use Rattle.replay_run.proofs.Rounds.{kept_after}
 use Rattle.agent_link.proofs.Items.{tape_read}
 use Rattle.replay_run.proofs.Scripts.{Publishes, script_read}
 use Rattle.replay_run.proofs.DueRows as due
@@ -49,6 +51,7 @@ record Runs (w : World) : Type 0 where
   pub took : Wires sent_by w.past w.taken
   pub gave : Wires heard_by w.past w.given
   pub times : AreReadings (step_readings w.tick w.rounds) w.past
+  pub from_tape : w.given ≡ accepting ∷ []
 
 -- a world a round later, with these lines left
 abbrev later : World → List Line → World
@@ -63,6 +66,7 @@ runs_on w lines e at within heard none r = record {
   took = wires_on sent_by w.past e w.taken within r.took;
   gave = wires_same heard_by w.past e w.given within heard r.gave;
   times = readings_on w.tick w.rounds w.past e at r.times;
+  from_tape = r.from_tape;
 }
 
 -- the phase behind an entry of a row
@@ -97,6 +101,7 @@ record IsOver (all : List Request) (w : World) : Type 0 where
   pub took : Wires sent_by w.past w.taken
   pub gave : Wires heard_by w.past w.given
   pub times : AreReadings (step_readings w.tick w.rounds) w.past
+  pub from_tape : w.given ≡ accepting ∷ []
 
 abbrev time_of : World → ℕ
 time_of w = step_reading w.tick w.rounds
@@ -193,6 +198,7 @@ finish_over all w l =
       took = wires_on sent_by w.past e w.taken refl l.runs.took;
       gave = wires_same heard_by w.past e w.given refl refl l.runs.gave;
       times = readings_on w.tick w.rounds w.past e refl l.runs.times;
+      from_tape = l.runs.from_tape;
     }
 
 -- a round more, as long as the phase isn't Off
@@ -287,6 +293,7 @@ up_first s tick lines one keeps publishes =
         took = wires_on sent_by (first ∷ []) second (opened_world s tick lines).taken refl sent_first;
         gave = ap (onto_last ([] ∷ [])) (sym (connack_heard (step_reading tick 1))) ∙ wires_on heard_by (first ∷ []) second ([] ∷ []) refl gave_first;
         times = readings_on tick 1 (first ∷ []) second refl (readings_on tick 0 [] first refl tt);
+        from_tape = refl;
       };
       up = phase_behind s (first ∷ []) second Up [] (connack_row s tick lines keeps);
       stays = refl;
@@ -313,22 +320,48 @@ replay_ends s tick lines one keeps publishes =
 whole_is : (all : List Request) (w : World) → IsOver all w → IsWholePast w.setup w.past
 whole_is all w o = record { ended = o.off; left = λ t within. let zero_is : 0 ≡ t = omega (arith, within, o.one_task) in subst (λ k. has_left k w.past ≡ true) zero_is o.left }
 
-history_of : (script : Script) (w : World) → IsOver (asked script 0) w → IsLegalPast w.setup w.past → IsTiedHistory script w
-history_of script w o legal = record {
-  history = record {
-    legal = legal;
-    whole = whole_is (asked script 0) w o;
-    taken = λ t within. let zero_is : 0 ≡ t = omega (arith, within, o.one_task) in subst (λ k. requests_of k w.past ≡ asked script k) zero_is o.taken;
-    once = commands_complete_once w.setup w.past legal (whole_is (asked script 0) w o);
-  };
-  tied = is_tied w.past w.taken w.given (step_readings w.tick w.rounds) o.took o.gave o.times;
-}
+off_is : (phase : Phase) → is_off phase ≡ true → phase ≡ Off
+off_is Down e = absurd (cc e)
+off_is Opening e = absurd (cc e)
+off_is Up e = absurd (cc e)
+off_is Spilled e = absurd (cc e)
+off_is Off e = refl
+
+abbrev Ends : Setup → List Entry → Type 0
+Ends s past = (ending : Ending) × (ending_of s past ≡ Some ending)
+
+by_before : (was : Bool) (s : Setup) (e : Entry) (past : List Entry) → is_off (phase_of s past) ≡ was → (was ≡ true → Ends s past) → phase_of s (e ∷ past) ≡ Off → Ends s (e ∷ past)
+by_before true s e past before h off = ((h refl).0, rw before (h refl).1)
+by_before false s e past before h off = (ending_by (phase_of s past) e.cause, rw (before, off) refl)
+
+-- whoever is Off has ended
+off_ends : (s : Setup) (past : List Entry) → phase_of s past ≡ Off → Ends s past
+off_ends s [] off = absurd (cc off)
+off_ends s (e ∷ past) off = by_before (is_off (phase_of s past)) s e past refl (λ was. off_ends s past (off_is (phase_of s past) was)) off
+
+history_of : (script : Script) (w : World) → IsOver (asked script 0) w → IsLegalPast w.setup w.past → IsTiedHistory w.setup w.tick script (items.Open ∷ items.Hear accepting ∷ []) w
+history_of script w o legal =
+    let end = off_ends w.setup w.past o.off in
+    record {
+      history = record {
+        legal = legal;
+        whole = whole_is (asked script 0) w o;
+        taken = λ t within. let zero_is : 0 ≡ t = omega (arith, within, o.one_task) in subst (λ k. requests_of k w.past ≡ asked script k) zero_is o.taken;
+        once = commands_complete_once w.setup w.past legal (whole_is (asked script 0) w o);
+      };
+      ending = end.0;
+      ended = end.1;
+      tied = is_tied w.past w.taken w.given (step_readings w.tick w.rounds) o.took o.gave o.times;
+      given = subst (λ ws. AreFronts ws (wires (items.Open ∷ items.Hear accepting ∷ []))) (sym o.from_tape) (([], refl), tt);
+    }
 
 pub replays_are_histories : ReplaysAreHistories
 replays_are_histories s tick text rest script found read tape tasks keeps =
     let today = script_read text script rest read in
-    let items_are = tape_read rest found tape in
-    let w = begun s tick script.lines found in
-    let over : IsOver (asked script 0) (finished w) = subst (λ (xs : List Item). IsOver (asked script 0) (finished (begun s tick script.lines xs))) (sym items_are)
-    (replay_ends s tick script.lines (tasks ∙ today.one_task) keeps today.publishes) in
-    history_of script (finished w) over (legal_after w (length script.lines + 4) tt)
+    let two = items.Open ∷ items.Hear accepting ∷ [] in
+    let start = begun s tick script.lines two in
+    let w = finished start in
+    let kept = kept_after (length script.lines + 4) start in
+    let done = history_of script w (replay_ends s tick script.lines (tasks ∙ today.one_task) keeps today.publishes) (legal_after start (length script.lines + 4) tt) in
+    subst (λ (xs : List Item). IsTiedHistory s tick script xs (finished (begun s tick script.lines xs))) (sym (tape_read rest found tape))
+    (subst (λ (u : Setup). IsTiedHistory u tick script two w) kept.0 (subst (λ (k : ℕ). IsTiedHistory w.setup k script two w) kept.1 done))

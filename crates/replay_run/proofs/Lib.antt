@@ -5,6 +5,7 @@ pub mod Lines
 pub mod Rounds
 pub mod Tallies
 pub mod DueRows
+pub mod Headline
 pub mod Histories
 pub mod Scripts
 pub mod Wires

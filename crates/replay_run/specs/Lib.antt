@@ -1,4 +1,5 @@
 pub mod Answers
+pub mod Headline
 pub mod Laws
 pub mod Replayed
 pub mod Runs
