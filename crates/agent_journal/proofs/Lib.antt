@@ -6,3 +6,4 @@ pub mod Pieces
 pub mod Lawful
 pub mod FewLines
 pub mod Once
+pub mod Worked

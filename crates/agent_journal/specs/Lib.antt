@@ -12,3 +12,4 @@ pub mod ScriptReading
 pub mod Parts
 pub mod Laws
 pub mod Promises
+pub mod Worked

@@ -17,7 +17,7 @@ mod write;
 pub use effect::Effect;
 pub use ending::Ending;
 pub use entry::{Cause, Entry, Why};
-pub use laws::{commands_complete_once, has_sound_packets};
+pub use laws::{commands_complete_once, first_example, has_sound_packets};
 use list_types::Seq;
 pub use message::Message;
 pub use outcome::Outcome;

@@ -1,0 +1,7 @@
+pub mod Parts
+pub mod Valid
+pub mod Scan
+pub mod Cursors
+pub mod Exact
+pub mod Names
+pub mod Below

@@ -1,0 +1,4 @@
+pub mod Levels
+pub mod Texts
+pub mod Fitting
+pub mod Laws
