@@ -1,6 +1,14 @@
 //! Domeweave: an MQTT 3.1.1 agent for firmware developers.
 #![tactic(auto)]
 
+ghost use Rattle.std.specs.Prelude.{◌≡◌, ◌≢◌, map, Some, IfSome, IfOk};
+ghost use Rattle.std.specs.String.{string_bytes};
+ghost use Rattle.replay_run.specs.declared.words.RunWords.{RunWords};
+ghost use Rattle.replay_run.specs.Answers.{Answers};
+ghost use Rattle.agent_main.specs.Answers.{whole_answer};
+ghost use Rattle.agent_main.specs.Commands.{words_of};
+ghost use Rattle.agent_main.specs.Headline.{HasRun, PrintsReplay};
+
 mod std_sink;
 mod std_source;
 mod top;
@@ -36,19 +44,33 @@ fn arguments(rt: &(impl Env + AllocGlobal), alloc: Global) -> Result<Vec<String>
     Ok(words)
 }
 
+/// Runs the command that the arguments spell, as [`top`] says.
 fn run<S: Source, O: Sink>(
     alloc: Global,
     arguments: &[String],
     source: &mut S,
     sink: &mut O,
-) -> u8 {
+) -> u8
+    ensures answer { IfSome (S.left source.old) (λ text. result ≢ 9 →
+        Answers result (O.written sink.old) (O.written sink.new) (whole_answer (map string_bytes arguments.now) text)) }
+    ensures history { IfSome (S.left source.old) (λ text. HasRun result → (w : RunWords) → words_of (map string_bytes arguments.now) ≡ Some w →
+        PrintsReplay w text result (O.written sink.old) (O.written sink.new)) }
+{
+    match words_in(alloc, arguments) {
+        Ok(words) => top(alloc, words.as_slice(), source, sink),
+        Err(_) => 7,
+    }
+}
+
+/// The arguments as words.
+fn words_in(alloc: Global, arguments: &[String]) -> Result<Vec<&str>, AllocError>
+    ensures { IfOk result (λ words. map (λ word. word.now) words.items ≡ map string_bytes arguments.now) }
+{
     let mut words = Vec::new(alloc);
     for argument in arguments {
-        if words.push(argument.as_str()).is_err() {
-            return 7;
-        }
+        words.push(argument.as_str())?;
     }
-    top(alloc, words.as_slice(), source, sink)
+    Ok(words)
 }
 
 #[cfg(test)]

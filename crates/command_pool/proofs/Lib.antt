@@ -1,0 +1,5 @@
+pub mod Held
+pub mod Words
+pub mod Moves
+pub mod Moments
+pub mod Tries
