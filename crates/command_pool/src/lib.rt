@@ -11,6 +11,7 @@ mod pool;
 mod rule;
 
 pub use hand::PoolStep;
+pub use laws::each_moment_is_lawful;
 pub use pass::PoolPass;
 pub use permit::{Permit, TakeFault};
 pub use pool::CommandPool;
