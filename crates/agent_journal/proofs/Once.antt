@@ -25,10 +25,10 @@ use Rattle.agent_journal.specs.Laws.{CommandsCompleteOnce}
 use Rattle.agent_journal.proofs.Soundness.{both, some_when, has_row}
 
 -- how often a cause's entry completes command q of task t
-abbrev answered_in : ℕ → ℕ → ℕ → ℕ → Request → ℕ
+abbrev pub answered_in : ℕ → ℕ → ℕ → ℕ → Request → ℕ
 answered_in t q task seq request = if not (is_leave request) && ((task == t) && (seq == q)) then 1 else 0
 
-abbrev answered_by : ℕ → ℕ → Cause → ℕ
+abbrev pub answered_by : ℕ → ℕ → Cause → ℕ
 answered_by t q c.Opened = 0
 answered_by t q (c.Take task seq request) = answered_in t q task seq request
 answered_by t q (c.Arrived packet) = 0
@@ -139,7 +139,7 @@ taken_next s r at task seq request some =
     (eqb-true seq (r.takes task) parts.1, off (r.left task) (both (nat_lt task s.tasks) (not (r.left task)) parts.0).1)
 
 -- how many of n commands are number q: one where there are so many
-abbrev below : ℕ → ℕ → ℕ
+abbrev pub below : ℕ → ℕ → ℕ
 below q n = if nat_lt q n then 1 else 0
 
 above : (q n : ℕ) → n ≤ q → (n ≡ q → ⊥) → n + 1 ≤ q
@@ -171,13 +171,13 @@ by_cause t c.GaveUp n m stays e = omega (arith, e)
 by_cause t c.Finish n m stays e = omega (arith, e)
 
 -- a task that hasn't left took only commands
-all_commands : (t : ℕ) (past : List Entry) → has_left t past ≡ false → takes_of t past ≡ commands_of t past
+pub all_commands : (t : ℕ) (past : List Entry) → has_left t past ≡ false → takes_of t past ≡ commands_of t past
 all_commands t [] stays = refl
 all_commands t (e ∷ past) stays =
     let parts = neither (leaves_by t e.cause) (has_left t past) stays in
     by_cause t e.cause (takes_of t past) (commands_of t past) parts.0 (all_commands t past parts.1)
 
-none_more : (q n : ℕ) → below q n + 0 ≡ below q (n + 0)
+pub none_more : (q n : ℕ) → below q n + 0 ≡ below q (n + 0)
 none_more q n = let same : n ≡ n + 0 = omega arith in let sum : below q n + 0 ≡ below q n = omega arith in sum ∙ ap (below q) same
 
 same_task : (t q n seq : ℕ) (leaves : Bool) → seq ≡ n → below q n + (if not leaves && ((t == t) && (seq == q)) then 1 else 0) ≡ below q (n + (if (t == t) && not leaves then 1 else 0))
@@ -189,7 +189,7 @@ other_task t task q n seq true differ = rw (ne_eqb t task (λ e. differ (sym e))
 other_task t task q n seq false differ = rw (ne_eqb task t differ, ne_eqb t task (λ e. differ (sym e))) (none_more q n)
 
 -- what a Take adds to both counts
-more_taken : (t task q n seq : ℕ) (request : Request) → (task ≡ t → seq ≡ n) → below q n + answered_in t q task seq request ≡ below q (n + commands_by t (c.Take task seq request))
+pub more_taken : (t task q n seq : ℕ) (request : Request) → (task ≡ t → seq ≡ n) → below q n + answered_in t q task seq request ≡ below q (n + commands_by t (c.Take task seq request))
 more_taken t task q n seq request next = elim (cases_eq task t) [
     inl e ↦ subst (λ (u : ℕ). below q n + answered_in t q u seq request ≡ below q (n + commands_by t (c.Take u seq request))) (sym e) (same_task t q n seq (is_leave request) (next e))
     | inr e ↦ other_task t task q n seq (is_leave request) e ]
@@ -205,7 +205,7 @@ more_by s past t q at c.Tick some = none_more q (commands_of t past)
 more_by s past t q at c.GaveUp some = none_more q (commands_of t past)
 more_by s past t q at c.Finish some = none_more q (commands_of t past)
 
-le-ltb-zero : (q : ℕ) → 0 ≡ below q 0
+pub le-ltb-zero : (q : ℕ) → 0 ≡ below q 0
 le-ltb-zero q = rw (le-ltb q 0 (omega arith)) refl
 
 -- at each moment of a legal journal each command that was taken is completed, once, and no other

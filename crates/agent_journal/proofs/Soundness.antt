@@ -21,7 +21,8 @@ use Rattle.agent_journal.specs.declared.setup.Setup.{Setup}
 use Rattle.agent_journal.specs.declared.setup.Phase.{Phase}
 use Rattle.agent_journal.specs.declared.setup.Phase.TheVariants.{Down, Opening, Up, Spilled, Off}
 use Rattle.agent_journal.specs.Setups.{is_client, is_printed}
-use Rattle.agent_journal.specs.Requests.{is_valid, is_name, is_name_byte, is_some_byte}
+use Rattle.topic_filter.specs.Texts as texts
+use Rattle.agent_journal.specs.Requests.{is_valid, is_topic, is_short}
 use Rattle.agent_journal.specs.Readings.{Readings}
 use Rattle.agent_journal.specs.Rows.{Row, when, to, row_of, cause_row, opened_row, connect, is_wiping, connack_row, opening_row, arrived_in, arrived_row, take_row, take_in, may_take, request_row, publish_row, publish, finish_row, all_left, is_none, is_first}
 use Rattle.agent_journal.specs.Histories.{effects_of}
@@ -52,6 +53,10 @@ fits packet fields small =
     joined (has_fields packet) (nat_le (length (spelling packet)) 262144) fields
     (le-leb (length (spelling packet)) 262144 (omega (arith, length-append (groups 4 (length (body packet))) (body packet))))
 
+-- a sound packet is within the limit
+pub within_limit : (packet : Packet) → is_sound packet ≡ true → length (spelling packet) ≤ 262144
+within_limit packet sound = leb-true (length (spelling packet)) 262144 (both (has_fields packet) (nat_le (length (spelling packet)) 262144) sound).1
+
 -- no byte is 0 where each passes a test that 0 doesn't
 no_zero : (test : ℕ → Bool) → (test 0 ≡ false) → (bytes : List ℕ) → list_all test bytes ≡ true → list_any (λ b. b == 0) bytes ≡ false
 no_zero test fails [] e = refl
@@ -74,18 +79,18 @@ connect_sound s clean client =
     let front = both (nat_lt 0 (length s.client) && nat_le (length s.client) 128) (list_all is_printed s.client) client in
     let small = leb-true (length s.client) 128 (both (nat_lt 0 (length s.client)) (nat_le (length s.client) 128) front.0).1 in
     let text = is_utf8-from_IsUtf8 s.client (IsUtf8-from_ascii s.client (in_ascii s.client front.1)) in
-    fits (connect s clean) (string_of s.client (omega arith) text (no_zero is_printed refl s.client front.1)) (omega arith)
+    fits (connect s clean) (joined true (is_string s.client) refl (string_of s.client (omega arith) text (no_zero is_printed refl s.client front.1))) (omega (arith, length-append s.client []))
 
 publish_sound : (topic payload : List ℕ) → is_valid (requests.Publish AtMostOnce topic payload) ≡ true → is_sound (publish AtMostOnce topic payload) ≡ true
-unfolding is_valid
+unfolding is_valid texts.is_name
 publish_sound topic payload valid =
-    let three = both (is_utf8 topic && is_name topic && nat_le (length topic) 1024) (nat_le (length payload) 131072) valid in
-    let two = both (is_utf8 topic && is_name topic) (nat_le (length topic) 1024) three.0 in
-    let one = both (is_utf8 topic) (is_name topic) two.0 in
-    let name = both (is_some_byte topic && nat_le (length topic) 65535) (list_all is_name_byte topic) one.1 in
-    let short = leb-true (length topic) 1024 two.1 in
-    let small = leb-true (length payload) 131072 three.1 in
-    fits (publish AtMostOnce topic payload) (joined (is_string topic) true (string_of topic (omega arith) one.0 (no_zero is_name_byte refl topic name.1)) refl)
+    let two = both (is_topic topic) (nat_le (length payload) 131072) valid in
+    let one = both (is_short topic) (texts.is_name topic) two.0 in
+    let short = both (is_utf8 topic) (nat_le (length topic) 1024) one.0 in
+    let name = both (texts.has_length topic) (list_all texts.is_name_byte topic) one.1 in
+    let few = leb-true (length topic) 1024 short.1 in
+    let small = leb-true (length payload) 131072 two.1 in
+    fits (publish AtMostOnce topic payload) (joined (is_string topic) true (string_of topic (omega arith) short.0 (no_zero texts.is_name_byte refl topic name.1)) refl)
     (omega (arith, length-append (topic ++ []) payload, length-append topic []))
 
 pub some_when : (b : Bool) (row : Option Row) → is_some (when b row) ≡ true → (b ≡ true) × (is_some row ≡ true)

@@ -1,27 +1,30 @@
--- Which requests the agent takes.
-use Rattle.std.specs.Prelude.{ℕ, Bool, true, false, ◌&&◌, not, ◌==◌, nat_le, List, [], ◌∷◌, length}
+-- Which requests the agent takes. The limits are the project's own.
+use Rattle.std.specs.Prelude.{ℕ, Bool, true, ◌&&◌, nat_le, List, length}
 use Rattle.std.specs.List.{list_all}
 use Rattle.std.specs.Str.{is_utf8}
+use Rattle.mqtt_packet.specs.declared.will.Ask.{Ask}
+use Rattle.topic_filter.specs.Texts.{is_name, is_filter}
 use Rattle.agent_journal.specs.declared.request.Request.{Request}
 use Rattle.agent_journal.specs.declared.request.Request.TheVariants as requests
 
--- a byte that may stand in a topic name: not 0, no wildcard
-abbrev pub is_name_byte : ℕ → Bool
-is_name_byte b = not (b == 0) && not (b == 43) && not (b == 35)
+-- at most 1,024 bytes
+abbrev pub is_short : List ℕ → Bool
+is_short text = is_utf8 text && nat_le (length text) 1024
 
-abbrev pub is_some_byte : List ℕ → Bool
-is_some_byte [] = false
-is_some_byte (b ∷ bytes) = true
+-- one to eight
+abbrev pub is_few : ℕ → Bool
+is_few count = nat_le 1 count && nat_le count 8
 
--- A topic name: 1 to 65,535 bytes without U+0000 and without wildcards (MQTT 3.1.1, sections 4.7.1 and 4.7.3).
-abbrev pub is_name : List ℕ → Bool
-is_name bytes = is_some_byte bytes && nat_le (length bytes) 65535 && list_all is_name_byte bytes
+abbrev pub is_topic : List ℕ → Bool
+is_topic text = is_short text && is_name text
 
--- The limits of 1,024 and 131,072 bytes are the project's own. Requests with filters aren't taken yet.
+abbrev pub is_wanted : List ℕ → Bool
+is_wanted text = is_short text && is_filter text
+
 unfoldable pub is_valid : Request → Bool
-is_valid (requests.Publish qos topic payload) = is_utf8 topic && is_name topic && nat_le (length topic) 1024 && nat_le (length payload) 131072
-is_valid (requests.Subscribe asks) = false
-is_valid (requests.Unsubscribe filters) = false
+is_valid (requests.Publish qos topic payload) = is_topic topic && nat_le (length payload) 131072
+is_valid (requests.Subscribe asks) = is_few (length asks) && list_all (λ ask. is_wanted ask.filter) asks
+is_valid (requests.Unsubscribe filters) = is_few (length filters) && list_all is_wanted filters
 is_valid requests.Ping = true
 is_valid requests.Disconnect = true
 is_valid requests.Terminate = true

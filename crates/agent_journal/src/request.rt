@@ -7,6 +7,7 @@ ghost use Rattle.agent_journal.specs.Requests as requests;
 use list_types::{Blob, Copied, Seq, Text};
 use mqtt_packet::{Ask, Qos};
 use std::alloc::{AllocError, Global};
+use topic_filter::{is_filter, is_name};
 
 /// What a task asks of the agent.
 #[derive(Debug, Drop, PartialEq, Eq)]
@@ -36,18 +37,18 @@ pub enum Request {
 }
 
 impl Request {
-    /// Whether the agent takes it: a topic is a topic name of at most 1,024 bytes (MQTT 3.1.1,
-    /// section 4.7) and a payload has at most 131,072 bytes. Requests with filters aren't taken yet.
-    #[tactic(auto, using(crate::proofs::Utf8::in_utf8), unfolding(crate::specs::Requests::is_valid))]
+    /// Whether the agent takes it: topics are names and filters are filters (MQTT 3.1.1, section 4.7)
+    /// of at most 1,024 bytes, a payload has at most 131,072 bytes, and there are 1 to 8 filters.
+    #[tactic(auto, unfolding(crate::specs::Requests::is_valid))]
     pub fn is_valid(&self) -> bool
         ensures { result ≡ requests.is_valid self.now }
     {
         match self {
-            Request::Publish { topic, payload, .. } => {
-                is_name(topic.as_bytes()) && topic.len() <= 1024 && payload.len() <= 131_072
+            Request::Publish { topic, payload, .. } => is_topic(topic) && payload.len() <= 131_072,
+            Request::Subscribe { asks } => is_few(asks.len()) && are_wanted(asks.as_slice()),
+            Request::Unsubscribe { filters } => {
+                is_few(filters.len()) && are_filters(filters.as_slice())
             }
-            Request::Subscribe { .. } => false,
-            Request::Unsubscribe { .. } => false,
             Request::Ping => true,
             Request::Disconnect => true,
             Request::Terminate => true,
@@ -56,23 +57,36 @@ impl Request {
     }
 }
 
-/// Whether a text is a topic name (MQTT 3.1.1, section 4.7).
-fn is_name(text: &[u8]) -> bool
-    ensures { result ≡ requests.is_name text.now }
+#[tactic(auto, using(crate::proofs::Utf8::in_utf8))]
+fn is_topic(text: &Text) -> bool
+    ensures { result ≡ requests.is_topic text.now }
 {
-    !text.is_empty() && text.len() <= 65_535 && has_name_bytes(text)
+    text.len() <= 1024 && is_name(text.as_str())
 }
 
-fn has_name_bytes(text: &[u8]) -> bool
-    ensures { result ≡ list_all requests.is_name_byte text.now }
+#[tactic(auto, using(crate::proofs::Utf8::in_utf8))]
+fn is_wanted(text: &Text) -> bool
+    ensures { result ≡ requests.is_wanted text.now }
 {
-    text.iter().all(|byte| is_name_byte(*byte))
+    text.len() <= 1024 && is_filter(text.as_str())
 }
 
-fn is_name_byte(byte: u8) -> bool
-    ensures { result ≡ requests.is_name_byte byte }
+fn is_few(count: usize) -> bool
+    ensures { result ≡ requests.is_few count }
 {
-    byte != 0 && byte != b'+' && byte != b'#'
+    1 <= count && count <= 8
+}
+
+fn are_wanted(asks: &[Ask]) -> bool
+    ensures { result ≡ list_all (λ ask. requests.is_wanted ask.filter) asks.now }
+{
+    asks.iter().all(|ask| is_wanted(&ask.filter))
+}
+
+fn are_filters(filters: &[Text]) -> bool
+    ensures { result ≡ list_all requests.is_wanted filters.now }
+{
+    filters.iter().all(|filter| is_wanted(filter))
 }
 
 impl Copied for Request {

@@ -1,1 +1,15 @@
+pub mod Bodies
+pub mod Fronts
+pub mod Lengths
+pub mod Loops
+pub mod Members
+pub mod Numbers
+pub mod Parts
+pub mod Readings
+pub mod Shapes
+pub mod Stands
+pub mod Streams
 pub mod Strings
+pub mod Uniqueness
+pub mod Verdicts
+pub mod Worked

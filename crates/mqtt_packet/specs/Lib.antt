@@ -1,1 +1,11 @@
+pub mod Flags
+pub mod Grammar
 pub mod Spelling
+pub mod Reading
+pub mod Bounds
+pub mod Fronts
+pub mod Stream
+pub mod Splitting
+pub mod Steps
+pub mod Laws
+pub mod Examples

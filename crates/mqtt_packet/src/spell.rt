@@ -1,10 +1,18 @@
 //! The bytes of a packet.
 
-ghost use Rattle.std.specs.Prelude.{◌≡◌, ℕ, ◌+◌, ◌*◌, ◌%◌, ◌^◌, ◌<◌, ◌≤◌, ◌↔◌, ◌∷◌, [], ◌++◌, length, take, true, IsErr, IfOk, IfErr, OnErr};
+ghost use Rattle.std.specs.Prelude.{◌≡◌, ℕ, List, ◌+◌, ◌*◌, ◌%◌, ◌^◌, ◌<◌, ◌≤◌, ◌↔◌, ◌∷◌, [], ◌++◌, length, take, true, IsErr, IfOk, IfErr, OnErr};
+ghost use Rattle.std.specs.List.{list_all, flat_map};
+ghost use Rattle.mqtt_packet.specs.Flags.{bit, level};
+ghost use Rattle.mqtt_packet.specs.Grammar.{Spells};
 ghost use Rattle.mqtt_packet.specs.Spelling as spelling;
 
+use crate::flags::{bit, connect_flags, first, level};
 use crate::packet::Packet;
+use crate::put::{put, put_data, put_number, put_remaining, put_string};
 use crate::qos::Qos;
+use crate::sizes::{body_len, len_within};
+use crate::soundness::numbers_fit;
+use crate::will::{Ask, Will};
 use list_types::{Blob, Text};
 
 /// The buffer is too short for the packet.
@@ -14,105 +22,33 @@ pub struct TooSmall {
     pub needed: usize,
 }
 
-/// How many bytes a packet has.
+/// How many bytes a packet has. It takes no memory.
 pub fn spelled_len(packet: &Packet) -> usize
     requires { spelling.is_sound packet.now ≡ true }
-    ensures { result ≡ length (spelling.spelling packet.now) }
+    ensures len { result ≡ length (spelling.spelling packet.now) }
+    ensures spelled { (bytes : List ℕ) → Spells packet.now bytes → result ≡ length bytes }
 {
     len_within(packet)
 }
 
 /// Writes a packet into the front of `out`, and answers how many bytes it has. Where `out` is
-/// shorter than that, it stays as it was. What stands behind the packet may change.
+/// shorter than that, it stays as it was. What stands behind the packet may change. It takes no memory.
 pub fn encode(packet: &Packet, out: &mut [u8]) -> Result<usize, TooSmall>
     requires { spelling.is_sound packet.now ≡ true }
     ensures count { IfOk result (λ n. n ≡ length (spelling.spelling packet.now)) }
     ensures spelling { IfOk result (λ n. take n out.new ≡ spelling.spelling packet.now) }
+    ensures spelled { IfOk result (λ n. Spells packet.now (take n out.new)) }
     ensures too_small { IsErr result ↔ (length out.old < length (spelling.spelling packet.now)) }
     ensures needed { IfErr result (λ e. e.needed ≡ length (spelling.spelling packet.now)) }
     ensures same { OnErr result (out.new ≡ out.old) }
     ensures len { length out.new ≡ length out.old }
 {
+    numbers_fit(packet);
     let needed = spelled_len(packet);
     if out.len() < needed {
         return Err(TooSmall { needed });
     }
     Ok(put_packet(out, packet))
-}
-
-/// How many bytes a packet has whose fields are in their ranges.
-pub(crate) fn len_within(packet: &Packet) -> usize
-    requires { spelling.has_fields packet.now ≡ true }
-    ensures { result ≡ length (spelling.spelling packet.now) }
-{
-    let body = body_len(packet);
-    1 + remaining_len(body) + body
-}
-
-/// How many bytes stand behind the remaining length.
-fn body_len(packet: &Packet) -> usize
-    requires { spelling.has_fields packet.now ≡ true }
-    ensures len { result ≡ length (spelling.body packet.now) }
-    ensures small { result < 2 ^ 63 + 65536 + 4 }
-{
-    match packet {
-        Packet::Connect { client, .. } => connect_len(client),
-        Packet::ConnAck { .. } => 2,
-        Packet::Publish {
-            qos,
-            topic,
-            payload,
-            ..
-        } => publish_len(*qos, topic, payload),
-        Packet::PubAck { .. } => 2,
-        Packet::PubRec { .. } => 2,
-        Packet::PubRel { .. } => 2,
-        Packet::PubComp { .. } => 2,
-        Packet::Subscribe { .. } => 0,
-        Packet::SubAck { .. } => 0,
-        Packet::Unsubscribe { .. } => 0,
-        Packet::UnsubAck { .. } => 2,
-        Packet::PingReq => 0,
-        Packet::PingResp => 0,
-        Packet::Disconnect => 0,
-    }
-}
-
-fn connect_len(client: &Text) -> usize
-    requires { length client.now < 65536 }
-    ensures { result ≡ 12 + length client.now }
-{
-    12 + client.len()
-}
-
-fn publish_len(qos: Qos, topic: &Text, payload: &Blob) -> usize
-    requires { length topic.now < 65536 }
-    ensures len { (id : ℕ) → result ≡ length (spelling.publish_body qos topic.now id payload.now) }
-    ensures small { result < 2 ^ 63 + 65536 + 4 }
-{
-    let identifier = match qos {
-        Qos::AtMostOnce => 0,
-        Qos::AtLeastOnce => 2,
-        Qos::ExactlyOnce => 2,
-    };
-    2 + topic.len() + identifier + payload.as_slice().len()
-}
-
-/// How many bytes the remaining length takes.
-#[tactic(auto, unfolding(crate::specs::Spelling::groups))]
-fn remaining_len(len: usize) -> usize
-    ensures len { result ≡ length (spelling.remaining len) }
-    ensures small { result ≤ 4 }
-{
-    if len < 128 {
-        1
-    } else if len < 16_384 {
-        2
-    } else if len < 2_097_152 {
-        3
-    } else {
-        4
-    }
 }
 
 fn put_packet(out: &mut [u8], packet: &Packet) -> usize
@@ -127,129 +63,6 @@ fn put_packet(out: &mut [u8], packet: &Packet) -> usize
     put_body(out, at, packet)
 }
 
-/// The first byte of a packet: its type and its flags.
-fn first(packet: &Packet) -> u8
-    ensures { result ≡ spelling.first packet.now }
-{
-    match packet {
-        Packet::Connect { .. } => 0x10,
-        Packet::ConnAck { .. } => 0x20,
-        Packet::Publish {
-            dup,
-            qos,
-            retain,
-            ..
-        } => publish_first(*dup, *qos, *retain),
-        Packet::PubAck { .. } => 0x40,
-        Packet::PubRec { .. } => 0x50,
-        Packet::PubRel { .. } => 0x62,
-        Packet::PubComp { .. } => 0x70,
-        Packet::Subscribe { .. } => 0x82,
-        Packet::SubAck { .. } => 0x90,
-        Packet::Unsubscribe { .. } => 0xA2,
-        Packet::UnsubAck { .. } => 0xB0,
-        Packet::PingReq => 0xC0,
-        Packet::PingResp => 0xD0,
-        Packet::Disconnect => 0xE0,
-    }
-}
-
-fn publish_first(dup: bool, qos: Qos, retain: bool) -> u8
-    ensures { result ≡ 48 + 8 * spelling.bit dup + 2 * spelling.level qos + spelling.bit retain }
-{
-    0x30 + 8 * bit(dup) + 2 * level(qos) + bit(retain)
-}
-
-fn bit(flag: bool) -> u8
-    ensures value { result ≡ spelling.bit flag }
-    ensures small { result ≤ 1 }
-{
-    if flag { 1 } else { 0 }
-}
-
-fn level(qos: Qos) -> u8
-    ensures value { result ≡ spelling.level qos }
-    ensures small { result ≤ 2 }
-{
-    match qos {
-        Qos::AtMostOnce => 0,
-        Qos::AtLeastOnce => 1,
-        Qos::ExactlyOnce => 2,
-    }
-}
-
-/// Writes bytes at `at`, and answers where they end. Of `out` up to there all else stays.
-fn put(out: &mut [u8], at: usize, bytes: &[u8]) -> usize
-    requires { at + length bytes.now ≤ length out.old }
-    ensures end { result ≡ at + length bytes.now }
-    ensures len { length out.new ≡ length out.old }
-    ensures front { take result out.new ≡ take at out.old ++ bytes.now }
-{
-    let end = at + bytes.len();
-    out[at..end].copy_from_slice(bytes);
-    end
-}
-
-fn put_number(out: &mut [u8], at: usize, number: u16) -> usize
-    requires { at + 2 ≤ length out.old }
-    ensures end { result ≡ at + 2 }
-    ensures len { length out.new ≡ length out.old }
-    ensures front { take result out.new ≡ take at out.old ++ spelling.number number }
-{
-    put(out, at, number.to_be_bytes().as_slice())
-}
-
-fn put_string(out: &mut [u8], at: usize, text: &Text) -> usize
-    requires short { length text.now < 65536 }
-    requires room { at + 2 + length text.now ≤ length out.old }
-    ensures end { result ≡ at + 2 + length text.now }
-    ensures len { length out.new ≡ length out.old }
-    ensures front { take result out.new ≡ take at out.old ++ spelling.string text.now }
-{
-    let at = put_number(out, at, text.len() as u16);
-    put(out, at, text.as_bytes())
-}
-
-#[tactic(auto, unfolding(crate::specs::Spelling::groups))]
-fn put_remaining(out: &mut [u8], at: usize, len: usize) -> usize
-    requires small { len < 268435456 }
-    requires room { at + length (spelling.remaining len) ≤ length out.old }
-    ensures end { result ≡ at + length (spelling.remaining len) }
-    ensures len { length out.new ≡ length out.old }
-    ensures front { take result out.new ≡ take at out.old ++ spelling.remaining len }
-{
-    if len < 128 {
-        put(out, at, [len as u8].as_slice())
-    } else if len < 16_384 {
-        put(out, at, [group(len), (len / 128) as u8].as_slice())
-    } else if len < 2_097_152 {
-        put(
-            out,
-            at,
-            [group(len), group(len / 128), (len / 128 / 128) as u8].as_slice(),
-        )
-    } else {
-        put(
-            out,
-            at,
-            [
-                group(len),
-                group(len / 128),
-                group(len / 128 / 128),
-                (len / 128 / 128 / 128) as u8,
-            ]
-            .as_slice(),
-        )
-    }
-}
-
-/// The low seven bits, and the sign that another group follows.
-fn group(len: usize) -> u8
-    ensures { result ≡ len % 128 + 128 }
-{
-    (len % 128) as u8 + 128
-}
-
 fn put_body(out: &mut [u8], at: usize, packet: &Packet) -> usize
     requires fields { spelling.has_fields packet.now ≡ true }
     requires room { at + length (spelling.body packet.now) ≤ length out.old }
@@ -262,8 +75,10 @@ fn put_body(out: &mut [u8], at: usize, packet: &Packet) -> usize
             clean,
             keep_alive,
             client,
-            ..
-        } => put_connect(out, at, *clean, *keep_alive, client),
+            will,
+            user,
+            password,
+        } => put_connect(out, at, *clean, *keep_alive, client, will, user, password),
         Packet::ConnAck { present, code } => put(out, at, [bit(*present), *code].as_slice()),
         Packet::Publish {
             qos,
@@ -276,9 +91,9 @@ fn put_body(out: &mut [u8], at: usize, packet: &Packet) -> usize
         Packet::PubRec { id } => put_number(out, at, *id),
         Packet::PubRel { id } => put_number(out, at, *id),
         Packet::PubComp { id } => put_number(out, at, *id),
-        Packet::Subscribe { .. } => at,
-        Packet::SubAck { .. } => at,
-        Packet::Unsubscribe { .. } => at,
+        Packet::Subscribe { id, asks } => put_subscribe(out, at, *id, asks.as_slice()),
+        Packet::SubAck { id, codes } => put_suback(out, at, *id, codes.as_slice()),
+        Packet::Unsubscribe { id, filters } => put_unsubscribe(out, at, *id, filters.as_slice()),
         Packet::UnsubAck { id } => put_number(out, at, *id),
         Packet::PingReq => at,
         Packet::PingResp => at,
@@ -286,20 +101,101 @@ fn put_body(out: &mut [u8], at: usize, packet: &Packet) -> usize
     }
 }
 
-fn put_connect(out: &mut [u8], at: usize, clean: bool, keep_alive: u16, client: &Text) -> usize
+fn put_connect(
+    out: &mut [u8],
+    at: usize,
+    clean: bool,
+    keep_alive: u16,
+    client: &Text,
+    will: &Option<Will>,
+    user: &Option<Text>,
+    password: &Option<Blob>,
+) -> usize
     requires short { length client.now < 65536 }
-    requires room { at + 12 + length client.now ≤ length out.old }
-    ensures end { result ≡ at + 12 + length client.now }
+    requires will { spelling.is_will will.now ≡ true }
+    requires credentials { spelling.are_credentials user.now password.now ≡ true }
+    requires room { at + length (spelling.connect_body clean keep_alive client.now will.now user.now password.now) ≤ length out.old }
+    ensures end { result ≡ at + length (spelling.connect_body clean keep_alive client.now will.now user.now password.now) }
     ensures len { length out.new ≡ length out.old }
-    ensures front { take result out.new ≡ take at out.old ++ spelling.connect_body clean keep_alive client.now }
+    ensures front { take result out.new ≡ take at out.old ++ spelling.connect_body clean keep_alive client.now will.now user.now password.now }
 {
-    let at = put(
-        out,
-        at,
-        [0, 4, b'M', b'Q', b'T', b'T', 4, 2 * bit(clean)].as_slice(),
-    );
-    let at = put_number(out, at, keep_alive);
-    put_string(out, at, client)
+    let flags = connect_flags(clean, will, user, password);
+    let at = put_connect_head(out, at, flags, keep_alive);
+    let at = put_string(out, at, client);
+    put_extras(out, at, will, user, password)
+}
+
+/// The variable header of a CONNECT (section 3.1.2).
+fn put_connect_head(out: &mut [u8], at: usize, flags: u8, keep_alive: u16) -> usize
+    requires { at + 10 ≤ length out.old }
+    ensures end { result ≡ at + 10 }
+    ensures len { length out.new ≡ length out.old }
+    ensures front { take result out.new ≡ take at out.old ++ (spelling.protocol ++ flags ∷ [] ++ spelling.number keep_alive) }
+{
+    let at = put(out, at, [0, 4, b'M', b'Q', b'T', b'T', 4, flags].as_slice());
+    put_number(out, at, keep_alive)
+}
+
+/// The payload of a CONNECT behind the client identifier (section 3.1.3).
+fn put_extras(
+    out: &mut [u8],
+    at: usize,
+    will: &Option<Will>,
+    user: &Option<Text>,
+    password: &Option<Blob>,
+) -> usize
+    requires will { spelling.is_will will.now ≡ true }
+    requires credentials { spelling.are_credentials user.now password.now ≡ true }
+    requires room { at + length (spelling.extras will.now user.now password.now) ≤ length out.old }
+    ensures end { result ≡ at + length (spelling.extras will.now user.now password.now) }
+    ensures len { length out.new ≡ length out.old }
+    ensures front { take result out.new ≡ take at out.old ++ spelling.extras will.now user.now password.now }
+{
+    let at = put_will(out, at, will);
+    let at = put_user(out, at, user);
+    put_password(out, at, password)
+}
+
+fn put_will(out: &mut [u8], at: usize, will: &Option<Will>) -> usize
+    requires will { spelling.is_will will.now ≡ true }
+    requires room { at + length (spelling.will_part will.now) ≤ length out.old }
+    ensures end { result ≡ at + length (spelling.will_part will.now) }
+    ensures len { length out.new ≡ length out.old }
+    ensures front { take result out.new ≡ take at out.old ++ spelling.will_part will.now }
+{
+    match will {
+        None => at,
+        Some(will) => {
+            let at = put_string(out, at, &will.topic);
+            put_data(out, at, &will.message)
+        }
+    }
+}
+
+fn put_user(out: &mut [u8], at: usize, user: &Option<Text>) -> usize
+    requires short { length (spelling.optional user.now) < 65538 }
+    requires room { at + length (spelling.optional user.now) ≤ length out.old }
+    ensures end { result ≡ at + length (spelling.optional user.now) }
+    ensures len { length out.new ≡ length out.old }
+    ensures front { take result out.new ≡ take at out.old ++ spelling.optional user.now }
+{
+    match user {
+        None => at,
+        Some(user) => put_string(out, at, user),
+    }
+}
+
+fn put_password(out: &mut [u8], at: usize, password: &Option<Blob>) -> usize
+    requires short { length (spelling.optional password.now) < 65538 }
+    requires room { at + length (spelling.optional password.now) ≤ length out.old }
+    ensures end { result ≡ at + length (spelling.optional password.now) }
+    ensures len { length out.new ≡ length out.old }
+    ensures front { take result out.new ≡ take at out.old ++ spelling.optional password.now }
+{
+    match password {
+        None => at,
+        Some(password) => put_data(out, at, password),
+    }
 }
 
 fn put_publish(out: &mut [u8], at: usize, qos: Qos, topic: &Text, id: u16, payload: &Blob) -> usize
@@ -325,4 +221,77 @@ fn put_identifier(out: &mut [u8], at: usize, qos: Qos, id: u16) -> usize
         Qos::AtLeastOnce => put_number(out, at, id),
         Qos::ExactlyOnce => put_number(out, at, id),
     }
+}
+
+fn put_subscribe(out: &mut [u8], at: usize, id: u16, asks: &[Ask]) -> usize
+    requires fields { list_all spelling.is_ask asks.now ≡ true }
+    requires room { at + 2 + length (flat_map spelling.ask_bytes asks.now) ≤ length out.old }
+    ensures end { result ≡ at + 2 + length (flat_map spelling.ask_bytes asks.now) }
+    ensures len { length out.new ≡ length out.old }
+    ensures front { take result out.new ≡ take at out.old ++ (spelling.number id ++ flat_map spelling.ask_bytes asks.now) }
+{
+    let at = put_number(out, at, id);
+    put_asks(out, at, asks)
+}
+
+#[tactic(auto, using(crate::proofs::Loops::length_more, crate::proofs::Loops::length_within, crate::proofs::Loops::bytes_more, crate::proofs::Loops::passes_at))]
+fn put_asks(out: &mut [u8], at: usize, asks: &[Ask]) -> usize
+    requires fields { list_all spelling.is_ask asks.now ≡ true }
+    requires room { at + length (flat_map spelling.ask_bytes asks.now) ≤ length out.old }
+    ensures end { result ≡ at + length (flat_map spelling.ask_bytes asks.now) }
+    ensures len { length out.new ≡ length out.old }
+    ensures front { take result out.new ≡ take at out.old ++ flat_map spelling.ask_bytes asks.now }
+{
+    let mut end = at;
+    for ask in asks {
+        end = put_ask(out, end, ask);
+    }
+    end
+}
+
+fn put_ask(out: &mut [u8], at: usize, ask: &Ask) -> usize
+    requires short { length ask.now.filter < 65536 }
+    requires room { at + length (spelling.ask_bytes ask.now) ≤ length out.old }
+    ensures end { result ≡ at + length (spelling.ask_bytes ask.now) }
+    ensures len { length out.new ≡ length out.old }
+    ensures front { take result out.new ≡ take at out.old ++ spelling.ask_bytes ask.now }
+{
+    let at = put_string(out, at, &ask.filter);
+    put(out, at, [level(ask.qos)].as_slice())
+}
+
+fn put_suback(out: &mut [u8], at: usize, id: u16, codes: &[u8]) -> usize
+    requires { at + 2 + length codes.now ≤ length out.old }
+    ensures end { result ≡ at + 2 + length codes.now }
+    ensures len { length out.new ≡ length out.old }
+    ensures front { take result out.new ≡ take at out.old ++ (spelling.number id ++ codes.now) }
+{
+    let at = put_number(out, at, id);
+    put(out, at, codes)
+}
+
+fn put_unsubscribe(out: &mut [u8], at: usize, id: u16, filters: &[Text]) -> usize
+    requires fields { list_all spelling.is_string filters.now ≡ true }
+    requires room { at + 2 + length (flat_map spelling.string filters.now) ≤ length out.old }
+    ensures end { result ≡ at + 2 + length (flat_map spelling.string filters.now) }
+    ensures len { length out.new ≡ length out.old }
+    ensures front { take result out.new ≡ take at out.old ++ (spelling.number id ++ flat_map spelling.string filters.now) }
+{
+    let at = put_number(out, at, id);
+    put_filters(out, at, filters)
+}
+
+#[tactic(auto, using(crate::proofs::Loops::length_more, crate::proofs::Loops::length_within, crate::proofs::Loops::bytes_more, crate::proofs::Loops::passes_at))]
+fn put_filters(out: &mut [u8], at: usize, filters: &[Text]) -> usize
+    requires fields { list_all spelling.is_string filters.now ≡ true }
+    requires room { at + length (flat_map spelling.string filters.now) ≤ length out.old }
+    ensures end { result ≡ at + length (flat_map spelling.string filters.now) }
+    ensures len { length out.new ≡ length out.old }
+    ensures front { take result out.new ≡ take at out.old ++ flat_map spelling.string filters.now }
+{
+    let mut end = at;
+    for filter in filters {
+        end = put_string(out, end, filter);
+    }
+    end
 }

@@ -1,0 +1,9 @@
+pub mod Worked
+pub mod Counts
+pub mod Completions
+pub mod Openings
+pub mod Once
+pub mod Ends
+pub mod Ended
+pub mod Earned
+pub mod Received

@@ -1,0 +1,116 @@
+-- Laws of the definitions.
+use Rattle.std.specs.Prelude.{◌≡◌, ◌⊎◌, ℕ, ◌+◌, ◌==◌, ◌&&◌, true, if◌then◌else◌, nat_lt, count_by, List, [], ◌∷◌, ◌++◌, Some}
+use Rattle.std.specs.List.{AllByRecursion}
+use Rattle.mqtt_packet.specs.declared.qos.Qos.{Qos}
+use Rattle.mqtt_packet.specs.declared.qos.Qos.TheVariants.{AtMostOnce, AtLeastOnce, ExactlyOnce}
+use Rattle.mqtt_packet.specs.declared.packet.Packet.TheVariants as p
+use Rattle.agent_journal.specs.declared.request.Request.{Request}
+use Rattle.agent_journal.specs.declared.request.Request.TheVariants as requests
+use Rattle.agent_journal.specs.declared.outcome.Outcome.{Outcome}
+use Rattle.agent_journal.specs.declared.outcome.Outcome.TheVariants as o
+use Rattle.agent_journal.specs.declared.entry.Cause.{Cause}
+use Rattle.agent_journal.specs.declared.entry.Cause.TheVariants as c
+use Rattle.agent_journal.specs.declared.effect.Effect.{Effect}
+use Rattle.agent_journal.specs.declared.effect.Effect.TheVariants as f
+use Rattle.agent_journal.specs.declared.entry.Entry.{Entry}
+use Rattle.agent_journal.specs.declared.setup.Setup.{Setup}
+use Rattle.agent_journal.specs.Projections.{commands_of, completions_of, NoneEarly, CompletesOnce}
+use Rattle.agent_journal.specs.Readings.{Pending, pending_of}
+use Rattle.agent_table.specs.Deliveries.{is_among, is_open_publish, is_exactly_once, released_of}
+use Rattle.agent_table.specs.Histories.{IsLegalPast, IsWholePast, readings, row, effects_of}
+use Rattle.agent_table.specs.Readings.{Readings}
+use Rattle.agent_table.specs.Sizes.{Sizes}
+
+-- how often command q of task t stands among the open ones
+abbrev pub open_of : ℕ → ℕ → List Entry → ℕ
+open_of t q past = count_by (λ (command : Pending). command.task == t && command.seq == q) (pending_of past)
+
+-- At each moment of a legal journal each command that was taken is open, once, or completed, once, and not both. What
+-- wasn't taken is neither.
+abbrev pub EachIsOpenOrDone : Type 0
+EachIsOpenOrDone = (s : Setup) (l : Sizes) (past : List Entry) → IsLegalPast s l past → (t q : ℕ) → completions_of t q past + open_of t q past ≡ (if nat_lt q (commands_of t past) then 1 else 0)
+
+-- In a legal journal no command is completed before it was taken.
+abbrev pub NoneIsEarly : Type 0
+NoneIsEarly = (s : Setup) (l : Sizes) (past : List Entry) → IsLegalPast s l past → NoneEarly past
+
+-- An agent that has ended has nothing open.
+abbrev pub EndsWithNoneOpen : Type 0
+EndsWithNoneOpen = (s : Setup) (l : Sizes) (past : List Entry) → IsLegalPast s l past → IsWholePast s l past → pending_of past ≡ []
+
+-- A legal journal that has gone through to its end completes each command exactly once.
+abbrev pub CommandsCompleteOnce : Type 0
+CommandsCompleteOnce = (s : Setup) (l : Sizes) (past : List Entry) → IsLegalPast s l past → IsWholePast s l past → CompletesOnce past
+
+-- one of the commands
+abbrev pub IsOneOf : Pending → List Pending → Type 0
+IsOneOf command [] = ⊥
+IsOneOf command (other ∷ commands) = (command ≡ other) ⊎ IsOneOf command commands
+
+-- What acknowledges a command (MQTT 3.1.1, section 4.3): a PUBACK at QoS 1; at QoS 2 a PUBCOMP, and a PUBREC came before it;
+-- an UNSUBACK.
+abbrev pub AcknowledgesPublish : Readings → Cause → ℕ → Qos → Type 0
+AcknowledgesPublish r cause id AtMostOnce = ⊥
+AcknowledgesPublish r cause id AtLeastOnce = cause ≡ c.Arrived (p.PubAck id)
+AcknowledgesPublish r cause id ExactlyOnce = (cause ≡ c.Arrived (p.PubComp id)) × (is_among r.released id ≡ true)
+
+abbrev pub Acknowledges : Readings → Cause → ℕ → Request → Type 0
+Acknowledges r cause id (requests.Publish qos topic payload) = AcknowledgesPublish r cause id qos
+Acknowledges r cause id (requests.Subscribe asks) = ⊥
+Acknowledges r cause id (requests.Unsubscribe filters) = cause ≡ c.Arrived (p.UnsubAck id)
+Acknowledges r cause id requests.Ping = ⊥
+Acknowledges r cause id requests.Disconnect = ⊥
+Acknowledges r cause id requests.Terminate = ⊥
+Acknowledges r cause id requests.Leave = ⊥
+
+-- what is done with its own Take
+abbrev pub IsDoneAtOnce : Request → Type 0
+IsDoneAtOnce (requests.Publish AtMostOnce topic payload) = Unit {0}
+IsDoneAtOnce (requests.Publish AtLeastOnce topic payload) = ⊥
+IsDoneAtOnce (requests.Publish ExactlyOnce topic payload) = ⊥
+IsDoneAtOnce (requests.Subscribe asks) = ⊥
+IsDoneAtOnce (requests.Unsubscribe filters) = Unit {0}
+IsDoneAtOnce requests.Ping = Unit {0}
+IsDoneAtOnce requests.Disconnect = Unit {0}
+IsDoneAtOnce requests.Terminate = Unit {0}
+IsDoneAtOnce requests.Leave = ⊥
+
+abbrev pub EarnsDone : Readings → Cause → ℕ → ℕ → Type 0
+EarnsDone r cause task seq =
+    ((request : Request) × (cause ≡ c.Take task seq request) × IsDoneAtOnce request)
+    ⊎ ((command : Pending) × IsOneOf command r.pending × (command.task ≡ task) × (command.seq ≡ seq) × Acknowledges r cause command.id command.request)
+
+-- a subscribe is granted the codes of a SUBACK of its identifier
+abbrev pub EarnsCodes : Readings → Cause → ℕ → ℕ → List ℕ → Type 0
+EarnsCodes r cause task seq codes =
+    (command : Pending) × IsOneOf command r.pending × (command.task ≡ task) × (command.seq ≡ seq) × (cause ≡ c.Arrived (p.SubAck command.id codes))
+
+abbrev pub EarnsOutcome : Readings → Cause → ℕ → ℕ → Outcome → Type 0
+EarnsOutcome r cause task seq o.Done = EarnsDone r cause task seq
+EarnsOutcome r cause task seq (o.Granted codes) = EarnsCodes r cause task seq codes
+EarnsOutcome r cause task seq o.NoRoom = Unit {0}
+EarnsOutcome r cause task seq o.NoRoute = Unit {0}
+EarnsOutcome r cause task seq o.NotConnected = Unit {0}
+EarnsOutcome r cause task seq o.LinkLost = Unit {0}
+EarnsOutcome r cause task seq o.SessionLost = Unit {0}
+EarnsOutcome r cause task seq o.Cancelled = Unit {0}
+EarnsOutcome r cause task seq o.NoMemory = ⊥
+
+-- A good outcome is earned: by its own Take where the broker doesn't answer, or by the acknowledgement of its identifier.
+abbrev pub Earns : Readings → Cause → Effect → Type 0
+Earns r cause (f.Send packet) = Unit {0}
+Earns r cause (f.Done task seq outcome) = EarnsOutcome r cause task seq outcome
+Earns r cause (f.Pass task message) = Unit {0}
+Earns r cause (f.Closed task) = Unit {0}
+
+-- In a legal journal each good outcome is earned.
+abbrev pub OutcomesAreEarned : Type 0
+OutcomesAreEarned = (s : Setup) (l : Sizes) (past : List Entry) (at : ℕ) (cause : Cause) (effects : List Effect) → effects_of (row s l past at cause) ≡ Some effects → AllByRecursion (Earns (readings s l past) cause) effects
+
+-- A publish that is released is one whose PUBREC arrived while it was open.
+abbrev pub WasReceived : ℕ → List Entry → Type 0
+WasReceived n past =
+    (behind before : List Entry) × (e : Entry) × (past ≡ behind ++ e ∷ before) × (e.cause ≡ c.Arrived (p.PubRec n)) × (is_open_publish is_exactly_once (pending_of before) n ≡ true)
+
+abbrev pub ReleasedWereReceived : Type 0
+ReleasedWereReceived = (past : List Entry) (n : ℕ) → is_among (released_of past) n ≡ true → WasReceived n past

@@ -1,0 +1,74 @@
+//! Laws of the definitions, each the contract of a function that does nothing.
+
+ghost use Rattle.agent_table.specs.Laws as laws;
+ghost use Rattle.agent_table.specs.Worked as worked;
+
+/// The journal of one task that publishes once is legal, and so is that of a connection that the
+/// broker refuses.
+#[tactic(auto, using(crate::proofs::Worked::firsts_are_legal))]
+pub fn first_examples()
+    ensures { worked.FirstsAreLegal }
+{}
+
+/// Publishes over connections that end: what is sent again, and what isn't.
+#[tactic(auto, using(crate::proofs::Worked::deliveries_are_legal))]
+pub fn delivery_examples()
+    ensures { worked.DeliveriesAreLegal }
+{}
+
+/// Messages that are passed, once.
+#[tactic(auto, using(crate::proofs::Worked::messages_are_legal))]
+pub fn message_examples()
+    ensures { worked.MessagesAreLegal }
+{}
+
+/// Routes that outlive a lost session.
+#[tactic(auto, using(crate::proofs::Worked::renewals_are_legal))]
+pub fn renewal_examples()
+    ensures { worked.RenewalsAreLegal }
+{}
+
+/// Runs that end by Terminate, and without an answer to a PINGREQ.
+#[tactic(auto, using(crate::proofs::Worked::ends_are_legal))]
+pub fn end_examples()
+    ensures { worked.EndsAreLegal }
+{}
+
+/// At each moment of a legal journal each command that was taken is open or completed, once.
+#[tactic(auto, using(crate::proofs::Once::each_is_open_or_done))]
+pub fn each_is_open_or_done()
+    ensures { laws.EachIsOpenOrDone }
+{}
+
+/// No command is completed before it was taken.
+#[tactic(auto, using(crate::proofs::Once::none_is_early))]
+pub fn none_is_early()
+    ensures { laws.NoneIsEarly }
+{}
+
+/// An agent that has ended has nothing open.
+#[tactic(auto, using(crate::proofs::Ended::ends_with_none_open))]
+pub fn ends_with_none_open()
+    ensures { laws.EndsWithNoneOpen }
+{}
+
+/// A legal journal that has gone through to its end completes each command exactly once, and none
+/// before it was taken.
+#[tactic(auto, using(crate::proofs::Ended::commands_complete_once))]
+pub fn commands_complete_once()
+    ensures { laws.CommandsCompleteOnce }
+{}
+
+/// A command is only done where the broker has acknowledged it, or needn't: at QoS 1 by a PUBACK of its
+/// identifier, at QoS 2 by a PUBCOMP behind a PUBREC, an unsubscribe by an UNSUBACK; and a subscribe is
+/// granted the codes of its SUBACK.
+#[tactic(auto, using(crate::proofs::Earned::outcomes_are_earned))]
+pub fn outcomes_are_earned()
+    ensures { laws.OutcomesAreEarned }
+{}
+
+/// A publish is only released behind a PUBREC that arrived while it was open.
+#[tactic(auto, using(crate::proofs::Received::released_were_received))]
+pub fn released_were_received()
+    ensures { laws.ReleasedWereReceived }
+{}
