@@ -147,10 +147,12 @@ above q n more differ = elim (cases_lt n q) [ inl less ↦ omega (arith, less) |
 
 one_below : (q n : ℕ) → below q n + (if n == q then 1 else 0) ≡ below q (n + 1)
 one_below q n = elim (cases_lt q n) [
-    inl less ↦ rw (lt-ltb q n less, ne_eqb n q (λ e. omega (arith, e, less)), lt-ltb q (n + 1) (omega (arith, less))) refl
-    | inr more ↦ elim (cases_eq n q) [
-        inl e ↦ rw (le-ltb q n more, eq-eqb n q e, lt-ltb q (n + 1) (omega (arith, e))) refl
-        | inr e ↦ rw (le-ltb q n more, ne_eqb n q e, le-ltb q (n + 1) (above q n more e)) refl ] ]
+  | inl less ↦ rw (lt-ltb q n less, ne_eqb n q (λ e. omega (arith, e, less)), lt-ltb q (n + 1) (omega (arith, less))) refl
+  | inr more ↦ elim (cases_eq n q) [
+    | inl e ↦ rw (le-ltb q n more, eq-eqb n q e, lt-ltb q (n + 1) (omega (arith, e))) refl
+    | inr e ↦ rw (le-ltb q n more, ne_eqb n q e, le-ltb q (n + 1) (above q n more e)) refl
+  ]
+]
 
 neither : (a b : Bool) → (a || b) ≡ false → (a ≡ false) × (b ≡ false)
 neither true b e = absurd (cc e)
@@ -191,8 +193,9 @@ other_task t task q n seq false differ = rw (ne_eqb task t differ, ne_eqb t task
 -- what a Take adds to both counts
 pub more_taken : (t task q n seq : ℕ) (request : Request) → (task ≡ t → seq ≡ n) → below q n + answered_in t q task seq request ≡ below q (n + commands_by t (c.Take task seq request))
 more_taken t task q n seq request next = elim (cases_eq task t) [
-    inl e ↦ subst (λ (u : ℕ). below q n + answered_in t q u seq request ≡ below q (n + commands_by t (c.Take u seq request))) (sym e) (same_task t q n seq (is_leave request) (next e))
-    | inr e ↦ other_task t task q n seq (is_leave request) e ]
+  | inl e ↦ subst (λ (u : ℕ). below q n + answered_in t q u seq request ≡ below q (n + commands_by t (c.Take u seq request))) (sym e) (same_task t q n seq (is_leave request) (next e))
+  | inr e ↦ other_task t task q n seq (is_leave request) e
+]
 
 more_by : (s : Setup) (past : List Entry) (t q at : ℕ) (cause : Cause) → is_some (row s past at cause) ≡ true → below q (commands_of t past) + answered_by t q cause ≡ below q (commands_of t past + commands_by t cause)
 more_by s past t q at c.Opened some = none_more q (commands_of t past)

@@ -45,12 +45,7 @@ fn arguments(rt: &(impl Env + AllocGlobal), alloc: Global) -> Result<Vec<String>
 }
 
 /// Runs the command that the arguments spell, as [`top`] says.
-fn run<S: Source, O: Sink>(
-    alloc: Global,
-    arguments: &[String],
-    source: &mut S,
-    sink: &mut O,
-) -> u8
+fn run<S: Source, O: Sink>(alloc: Global, arguments: &[String], source: &mut S, sink: &mut O) -> u8
     ensures answer { IfSome (S.left source.old) (λ text. result ≢ 9 →
         Answers result (O.written sink.old) (O.written sink.new) (whole_answer (map string_bytes arguments.now) text)) }
     ensures history { IfSome (S.left source.old) (λ text. HasRun result → (w : RunWords) → words_of (map string_bytes arguments.now) ≡ Some w →

@@ -7,7 +7,6 @@ ghost use Rattle.agent_link.specs.Tape.{tape_in};
 ghost use Rattle.agent_journal.specs.Setups.{is_client};
 ghost use Rattle.agent_main.specs.Answers as answers;
 ghost use Rattle.replay_run.specs.Answers.{Answers};
-
 ghost use Rattle.replay_run.specs.declared.words.RunWords.{RunWords};
 ghost use Rattle.agent_main.specs.Commands.{words_of};
 ghost use Rattle.agent_main.specs.Headline.{HasRun, PrintsReplay};

@@ -11,8 +11,8 @@ ghost use Rattle.replay_run.specs.Headline.{PrintsHistory};
 ghost use Rattle.replay_run.specs.Words.{setup_of};
 
 use crate::exit::finish;
-use crate::run::Run;
 use crate::report::report_of;
+use crate::run::Run;
 use crate::words::RunWords;
 use agent_core::Core;
 use agent_journal::Script;

@@ -10,6 +10,6 @@ mod wire;
 mod words;
 
 pub use command::replay_call;
-pub use laws::{replays_are_histories, replays_are_legal};
 pub use exit::finish;
+pub use laws::{replays_are_histories, replays_are_legal};
 pub use words::{RunWords, Size};

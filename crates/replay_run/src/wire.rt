@@ -31,11 +31,7 @@ pub(crate) fn send_packets(
 }
 
 #[tactic(auto, using(crate::proofs::Sends::onto_nothing, crate::proofs::Sends::one_sent))]
-fn send_effect(
-    link: &mut TapeLink,
-    buffer: &mut Vec<u8>,
-    effect: &Effect,
-) -> Result<(), NoMemory>
+fn send_effect(link: &mut TapeLink, buffer: &mut Vec<u8>, effect: &Effect) -> Result<(), NoMemory>
     requires { IsSoundEffect effect.now }
     ensures taken { OnOk result (link.new.taken ≡ onto_last link.old.taken (sent_in (effect.now ∷ []))) }
     ensures given { OnOk result (link.new.given ≡ link.old.given) }
@@ -50,11 +46,7 @@ fn send_effect(
 }
 
 /// Sends one packet. A connection of a tape takes all of it, or memory runs out.
-fn send_packet(
-    link: &mut TapeLink,
-    buffer: &mut Vec<u8>,
-    packet: &Packet,
-) -> Result<(), NoMemory>
+fn send_packet(link: &mut TapeLink, buffer: &mut Vec<u8>, packet: &Packet) -> Result<(), NoMemory>
     requires { spelling.is_sound packet.now ≡ true }
     ensures taken { OnOk result (link.new.taken ≡ onto_last link.old.taken (spelling.spelling packet.now)) }
     ensures given { OnOk result (link.new.given ≡ link.old.given) }
