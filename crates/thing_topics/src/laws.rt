@@ -1,0 +1,19 @@
+//! Laws of the definitions, each the contract of a function that does nothing. By them what a
+//! writer gives is read back as the same parts, and a text has one reading at most.
+
+ghost use Rattle.thing_topics.specs.Laws as laws;
+
+/// A text reads as the parts of a shadow's topic exactly where it is their topic.
+pub fn shadow_readings_are_topics()
+    ensures { laws.ShadowReadingsAreTopics }
+{}
+
+/// A text reads as the parts of a topic of jobs exactly where it is their topic.
+pub fn jobs_readings_are_topics()
+    ensures { laws.JobsReadingsAreTopics }
+{}
+
+/// A text reads as the parts of a stream's topic exactly where it is their topic.
+pub fn stream_readings_are_topics()
+    ensures { laws.StreamReadingsAreTopics }
+{}
