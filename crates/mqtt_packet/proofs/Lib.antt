@@ -1,4 +1,5 @@
 pub mod Bodies
+pub mod Cuts
 pub mod Fronts
 pub mod Lengths
 pub mod Loops

@@ -50,7 +50,7 @@ bytes_are_a_stream bytes fits = read (length bytes) bytes (omega arith) fits
 
 -- ---- There are not two
 
-same_front : (packet other : Packet) (bytes a b x y : List ℕ) → Spells packet a → Spells other b → bytes ≡ a ++ x → bytes ≡ b ++ y → (packet ≡ other) × (a ≡ b) × (x ≡ y)
+pub same_front : (packet other : Packet) (bytes a b x y : List ℕ) → Spells packet a → Spells other b → bytes ≡ a ++ x → bytes ≡ b ++ y → (packet ≡ other) × (a ≡ b) × (x ≡ y)
 same_front packet other bytes a b x y h k e f =
     let both : fronts.Packet packet (length a) ≡ fronts.Packet other (length b) = sym (front_read packet a x h) ∙ ap front_of (sym e ∙ f) ∙ front_read other b y k in
     let same : packet ≡ other = cc in

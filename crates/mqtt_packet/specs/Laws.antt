@@ -1,9 +1,12 @@
 -- Laws of the definitions, each the contract of a function that does nothing.
 use Rattle.std.specs.Prelude.{◌≡◌, ◌⊎◌, ℕ, true, List, [], ◌++◌}
 use Rattle.mqtt_packet.specs.declared.packet.Packet.{Packet}
+use Rattle.mqtt_packet.specs.declared.splitter.Next.{Next}
+use Rattle.mqtt_packet.specs.declared.splitter.Next.TheVariants as answers
 use Rattle.mqtt_packet.specs.Grammar.{Spells}
 use Rattle.mqtt_packet.specs.Spelling.{spelling, is_sound, IsOfItsTypes}
 use Rattle.mqtt_packet.specs.Stream.{AreBytes, IsStream, BeginsNoPacket, IsBad, HasSizeAboveLimit, IsTooLong, IsPartial}
+use Rattle.mqtt_packet.specs.Splitting.{Tells}
 
 -- A packet is sound exactly where it has a spelling.
 abbrev pub SoundAreSpelled : Type 0
@@ -37,3 +40,20 @@ RestsHaveAVerdict = (rest : List ℕ) → AreBytes rest → BeginsNoPacket rest 
 
 abbrev pub SizesAreUnique : Type 0
 SizesAreUnique = (rest : List ℕ) (one other : ℕ) → HasSizeAboveLimit rest one → HasSizeAboveLimit rest other → one ≡ other
+
+-- Of what was fed and handed out an answer is determined.
+abbrev pub AnswersAreDetermined : Type 0
+AnswersAreDetermined = (fed : List ℕ) (handed : List Packet) (next other : Next) → Tells fed handed next → Tells fed handed other → next ≡ other
+
+-- However the same bytes were cut into pieces: once an answer is no packet, the packets that were handed out are the same,
+-- and so is the answer.
+abbrev pub IsNoPacket : Next → Type 0
+IsNoPacket (answers.Packet packet) = ⊥
+IsNoPacket answers.More = Unit {0}
+IsNoPacket (answers.Bad at) = Unit {0}
+IsNoPacket (answers.TooLong at len) = Unit {0}
+
+abbrev pub CutsMakeNoDifference : Type 0
+CutsMakeNoDifference =
+    (fed : List ℕ) (handed others : List Packet) (next other : Next) → IsNoPacket next → IsNoPacket other → Tells fed handed next → Tells fed others other
+    → (handed ≡ others) × (next ≡ other)

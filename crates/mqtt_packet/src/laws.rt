@@ -1,7 +1,7 @@
 //! Laws of the definitions, and worked examples, each the contract of a function that does nothing.
 
 ghost use Rattle.mqtt_packet.specs.Examples.{ConnectsAreSpelled, MessagesAreSpelled, SubscriptionsAreSpelled, VerdictsAreThese};
-ghost use Rattle.mqtt_packet.specs.Laws.{SoundAreSpelled, SpelledAreSound, HaveOneSpelling, SpellOnePacket, BeginNoOther, BytesAreAStream, StreamsAreUnique, RestsHaveAVerdict, SizesAreUnique};
+ghost use Rattle.mqtt_packet.specs.Laws.{SoundAreSpelled, SpelledAreSound, HaveOneSpelling, SpellOnePacket, BeginNoOther, BytesAreAStream, StreamsAreUnique, RestsHaveAVerdict, SizesAreUnique, AnswersAreDetermined, CutsMakeNoDifference};
 
 /// A packet that is sound has a spelling.
 #[tactic(auto, using(crate::proofs::Uniqueness::sound_are_spelled))]
@@ -54,6 +54,17 @@ pub fn rests_have_a_verdict()
 #[tactic(auto, using(crate::proofs::Streams::sizes_are_unique))]
 pub fn sizes_are_unique()
     ensures { SizesAreUnique }
+{}
+
+/// What was fed and handed out determines what a [`Splitter`](crate::Splitter) answers.
+#[tactic(auto, using(crate::proofs::Cuts::answers_are_determined))]
+pub fn answers_are_determined()
+    ensures { AnswersAreDetermined }
+{}
+
+/// Where the pieces were cut makes no difference to the packets and to the verdict.
+pub fn cuts_make_no_difference()
+    ensures { CutsMakeNoDifference }
 {}
 
 /// A CONNECT and a CONNACK, byte by byte.

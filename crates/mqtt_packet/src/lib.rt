@@ -20,10 +20,10 @@ mod splitter;
 mod will;
 
 pub use laws::{
-    bytes_are_a_stream, bytes_spell_one_packet, connects_are_spelled, messages_are_spelled,
-    packets_have_one_spelling, rests_have_a_verdict, sizes_are_unique, sound_are_spelled,
-    spelled_are_sound, spellings_begin_no_other, streams_are_unique, subscriptions_are_spelled,
-    verdicts_are_these,
+    answers_are_determined, bytes_are_a_stream, bytes_spell_one_packet, connects_are_spelled,
+    cuts_make_no_difference, messages_are_spelled, packets_have_one_spelling, rests_have_a_verdict,
+    sizes_are_unique, sound_are_spelled, spelled_are_sound, spellings_begin_no_other,
+    streams_are_unique, subscriptions_are_spelled, verdicts_are_these,
 };
 pub use list_types::{Blob, Copied, Seq, Text};
 pub use packet::Packet;

@@ -22,11 +22,12 @@ pub struct TooSmall {
     pub needed: usize,
 }
 
-/// How many bytes a packet has. It takes no memory.
+/// How many bytes a packet has, [`PACKET_LIMIT`](crate::PACKET_LIMIT) at most. It takes no memory.
 pub fn spelled_len(packet: &Packet) -> usize
     requires { spelling.is_sound packet.now ≡ true }
     ensures len { result ≡ length (spelling.spelling packet.now) }
     ensures spelled { (bytes : List ℕ) → Spells packet.now bytes → result ≡ length bytes }
+    ensures most { result ≤ 262144 }
 {
     len_within(packet)
 }
