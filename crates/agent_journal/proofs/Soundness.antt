@@ -53,10 +53,6 @@ fits packet fields small =
     joined (has_fields packet) (nat_le (length (spelling packet)) 262144) fields
     (le-leb (length (spelling packet)) 262144 (omega (arith, length-append (groups 4 (length (body packet))) (body packet))))
 
--- a sound packet is within the limit
-pub within_limit : (packet : Packet) → is_sound packet ≡ true → length (spelling packet) ≤ 262144
-within_limit packet sound = leb-true (length (spelling packet)) 262144 (both (has_fields packet) (nat_le (length (spelling packet)) 262144) sound).1
-
 -- no byte is 0 where each passes a test that 0 doesn't
 no_zero : (test : ℕ → Bool) → (test 0 ≡ false) → (bytes : List ℕ) → list_all test bytes ≡ true → list_any (λ b. b == 0) bytes ≡ false
 no_zero test fails [] e = refl

@@ -165,7 +165,6 @@ fn write_run<O: Sink>(out: &mut O, text: &[u8]) -> Result<usize, Fault>
     Ok(run)
 }
 
-#[tactic(auto, using(crate::proofs::Soundness::within_limit))]
 fn write_packet<O: Sink>(out: &mut O, packet: &Packet) -> Result<(), Fault>
     requires { is_sound packet.now ≡ true }
     ensures text { Writes (O.written out.old) (O.written out.new) result (encode_lower (spelling packet.now)) }
