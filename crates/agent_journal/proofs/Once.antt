@@ -1,5 +1,5 @@
 -- In a legal journal the entry that takes a command completes it.
-use Rattle.std.proofs.Common.{◌≡◌, ℕ, zero, suc, ◌+◌, ◌<◌, ◌≤◌, ◌⊎◌, Bool, true, false, cond, List, [], ◌∷◌, Option, Some, None, is_some, count_by, refl, sym, ap, ◌∙◌, subst, arith}
+use Rattle.std.proofs.Common.{◌≡◌, ℕ, ◌+◌, ◌≤◌, Bool, true, false, List, [], ◌∷◌, Option, Some, None, is_some, count_by, refl, sym, ap, ◌∙◌, subst, arith}
 use Rattle.std.specs.Prelude.{◌&&◌, ◌||◌, ◌==◌, not, nat_lt, if◌then◌else◌}
 use Rattle.std.proofs.lemmas.Bool.{cases_Bool, cases_lt, lt-ltb, le-ltb, eqb-true, eq-eqb, ne_eqb, cases_eq}
 use mathlib.Core.Logic.{inl, inr}
@@ -18,9 +18,9 @@ use Rattle.agent_journal.specs.declared.setup.Phase.{Phase}
 use Rattle.agent_journal.specs.declared.setup.Phase.TheVariants.{Down, Opening, Up, Spilled, Off}
 use Rattle.agent_journal.specs.Requests.{is_valid}
 use Rattle.agent_journal.specs.Readings.{Readings, is_leave, takes_of, takes_behind, has_left, leaves_by, completes}
-use Rattle.agent_journal.specs.Rows.{Row, when, to, row_of, cause_row, opened_row, connack_row, opening_row, arrived_in, arrived_row, take_row, take_in, may_take, request_row, publish_row, finish_row, all_left, is_none, connect, is_wiping, is_first}
+use Rattle.agent_journal.specs.Rows.{Row, when, to, row_of, cause_row, opened_row, connack_row, opening_row, arrived_in, arrived_row, take_row, take_in, may_take, request_row, publish_row, finish_row}
 use Rattle.agent_journal.specs.Histories.{IsLegalPast, readings, row, effects_of}
-use Rattle.agent_journal.specs.Projections.{commands_by, commands_of, completions_of, CompletesOnce, NoneEarly}
+use Rattle.agent_journal.specs.Projections.{commands_by, commands_of, completions_of, NoneEarly}
 use Rattle.agent_journal.specs.Laws.{CommandsCompleteOnce}
 use Rattle.agent_journal.proofs.Soundness.{both, some_when, has_row}
 

@@ -1,5 +1,5 @@
 -- The worked example, by computation.
-use Rattle.std.proofs.Common.{◌≡◌, ℕ, zero, suc, true, refl, arith}
+use Rattle.std.proofs.Common.{◌≡◌, zero, suc, true, refl, arith}
 use Rattle.std.specs.Prelude.{codes}
 use Rattle.std.specs.Fmt as fmt
 use Rattle.std.specs.Str.{is_utf8, IsAscii}

@@ -1,6 +1,6 @@
 -- Which rows there are in each phase of a replay.
-use Rattle.std.proofs.Common.{◌≡◌, ℕ, ◌≤◌, Bool, true, false, cond, List, [], ◌∷◌, Option, Some, None, refl, sym, ap, ◌∙◌, subst, arith}
-use Rattle.std.specs.Prelude.{◌&&◌, ◌==◌, not, nat_lt, nat_le}
+use Rattle.std.proofs.Common.{◌≡◌, ℕ, ◌≤◌, Bool, true, false, List, [], ◌∷◌, Some, None, refl, sym, ap, ◌∙◌, subst, arith}
+use Rattle.std.specs.Prelude.{◌&&◌}
 use Rattle.std.proofs.lemmas.Bool.{le-leb, eq-eqb, lt-ltb}
 use Rattle.mqtt_packet.specs.declared.packet.Packet.TheVariants as p
 use Rattle.mqtt_packet.specs.declared.qos.Qos.TheVariants.{AtMostOnce}
@@ -10,15 +10,14 @@ use Rattle.agent_journal.specs.declared.request.Request.TheVariants as requests
 use Rattle.agent_journal.specs.declared.outcome.Outcome.TheVariants as o
 use Rattle.agent_journal.specs.declared.entry.Cause.{Cause}
 use Rattle.agent_journal.specs.declared.entry.Cause.TheVariants as c
-use Rattle.agent_journal.specs.declared.effect.Effect.{Effect}
 use Rattle.agent_journal.specs.declared.effect.Effect.TheVariants as f
 use Rattle.agent_journal.specs.declared.setup.Setup.{Setup}
 use Rattle.agent_journal.specs.declared.setup.Phase.{Phase}
-use Rattle.agent_journal.specs.declared.setup.Phase.TheVariants.{Down, Opening, Up, Spilled, Off}
+use Rattle.agent_journal.specs.declared.setup.Phase.TheVariants.{Down, Opening, Up, Off}
 use Rattle.agent_journal.specs.Requests.{is_valid}
 use Rattle.agent_journal.specs.Readings.{Readings}
-use Rattle.agent_journal.specs.Rows.{Row, when, to, row_of, cause_row, opened_row, connack_row, arrived_row, arrived_in, take_row, take_in, may_take, request_row, finish_row, all_left, is_none, connect, is_wiping, is_first, publish}
-use Rattle.agent_journal.specs.Histories.{first_row, due_by, due_causes}
+use Rattle.agent_journal.specs.Rows.{when, to, row_of, cause_row, opened_row, connack_row, arrived_row, arrived_in, take_row, take_in, may_take, request_row, finish_row, connect, is_wiping, publish}
+use Rattle.agent_journal.specs.Histories.{due_by}
 
 in_time : (s : Setup) (r : Readings) (at : ℕ) (cause : Cause) → r.last_time ≤ at → row_of s r at cause ≡ cause_row s r at cause
 unfolding row_of

@@ -1,15 +1,14 @@
 -- What a replay prints is a history.
-use Rattle.std.proofs.Common.{◌≡◌, ◌≢◌, ℕ, false, List, Option, Some, Ok, refl, sym, ap, ◌∙◌, subst}
-use Rattle.std.specs.Io.KnownBytes.{Appends}
+use Rattle.std.proofs.Common.{◌≡◌, ◌≢◌, ℕ, false, List, Option, Some, Ok, refl, ap, ◌∙◌, subst}
 use Rattle.agent_link.specs.declared.tape.Item.{Item}
 use Rattle.agent_link.specs.Tape.{tape_in}
 use Rattle.agent_journal.specs.declared.script.Script.{Script}
 use Rattle.agent_journal.specs.Endings.{ending_of}
 use Rattle.agent_journal.specs.Scripts.{script_of}
 use Rattle.replay_run.specs.declared.words.RunWords.{RunWords}
-use Rattle.replay_run.specs.Answers.{Answer, Answers, answer_by, answer_of, replay_answer}
+use Rattle.replay_run.specs.Answers.{Answers, answer_by, answer_of, replay_answer}
 use Rattle.replay_run.specs.Headline.{PrintsHistory}
-use Rattle.replay_run.specs.Replayed.{World, begun, finished}
+use Rattle.replay_run.specs.Replayed.{begun, finished}
 use Rattle.replay_run.specs.Words.{setup_of}
 use Rattle.replay_run.proofs.Histories.{replays_are_histories}
 use Rattle.replay_run.proofs.Rounds.{kept_after}

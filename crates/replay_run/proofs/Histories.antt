@@ -1,11 +1,11 @@
 -- A replay goes through its script to its end.
-use Rattle.std.proofs.Common.{◌≡◌, ℕ, zero, suc, ◌+◌, ◌<◌, ◌≤◌, Bool, true, false, cond, List, [], ◌∷◌, ◌++◌, length, take, Option, Some, None, filter, refl, sym, ap, ◌∙◌, subst, arith, append_assoc}
+use Rattle.std.proofs.Common.{◌≡◌, ℕ, zero, suc, ◌+◌, ◌≤◌, Bool, true, false, List, [], ◌∷◌, ◌++◌, length, Option, Some, None, refl, sym, ap, ◌∙◌, subst, arith, append_assoc}
 use Rattle.std.specs.Prelude.{◌&&◌}
-use Rattle.std.specs.List.{AllByRecursion, flat_map}
+use Rattle.std.specs.List.{AllByRecursion}
 use Rattle.std.proofs.lemmas.List.{append-nil}
 use Rattle.mqtt_packet.specs.declared.packet.Packet.TheVariants as p
 use Rattle.mqtt_packet.specs.declared.qos.Qos.TheVariants.{AtMostOnce}
-use Rattle.mqtt_packet.specs.Spelling.{groups, spelling}
+use Rattle.mqtt_packet.specs.Spelling.{groups}
 use Rattle.agent_link.specs.declared.tape.Item.{Item}
 use Rattle.agent_link.specs.declared.tape.Item.TheVariants as items
 use Rattle.agent_link.specs.Clocks.{step_reading, step_readings}
@@ -28,14 +28,13 @@ use Rattle.agent_journal.specs.declared.ending.Ending.{Ending}
 use Rattle.agent_journal.specs.Endings.{is_off, ending_by, ending_of}
 use Rattle.agent_journal.specs.Histories.{phase_of, phase_by, readings, row, due_by, IsLegalPast, IsWholePast}
 use Rattle.agent_journal.specs.Projections.{requests_of}
-use Rattle.agent_journal.specs.Promises.{IsHistoryOf}
-use Rattle.agent_journal.specs.Readings.{last_time_of, takes_of, has_left, pending_of, accepted_of}
+use Rattle.agent_journal.specs.Readings.{last_time_of, takes_of, has_left, pending_of}
 use Rattle.agent_journal.specs.Rows.{Row, to, connect, publish}
-use Rattle.agent_journal.specs.Scripts.{asked, asked_in, asked_by}
+use Rattle.agent_journal.specs.Scripts.{asked, asked_in}
 use Rattle.agent_journal.specs.Wires.{sent_by, heard_by, is_opened, AreFronts, AreReadings}
 use Rattle.agent_journal.proofs.Once.{commands_complete_once}
 use Rattle.replay_run.specs.Laws.{ReplaysAreHistories, IsTiedHistory}
-use Rattle.replay_run.specs.Replayed.{World, entry, with_entry, entered, entered_by, opens, receives, takes, takes_by, takes_step, acts_in, acts_by, acts, round, has_ended, after, begun, finished}
+use Rattle.replay_run.specs.Replayed.{World, with_entry, entered, entered_by, opens, receives, takes, takes_by, takes_step, acts_in, acts_by, round, after, begun, finished}
 use Rattle.replay_run.proofs.Legal.{legal_after}
 use Rattle.replay_run.proofs.Rounds.{kept_after}
 use Rattle.agent_link.proofs.Items.{tape_read}

@@ -1,19 +1,16 @@
 -- What a connection took and gave, by an entry more.
-use Rattle.std.proofs.Common.{◌≡◌, ℕ, zero, suc, ◌+◌, ◌*◌, ◌≤◌, min, Bool, true, false, cond, List, [], ◌∷◌, ◌++◌, length, map, refl, sym, ap, ◌∙◌, subst, arith}
+use Rattle.std.proofs.Common.{◌≡◌, ℕ, suc, ◌+◌, ◌*◌, ◌≤◌, false, List, [], ◌∷◌, ◌++◌, map, refl, sym, ap, ◌∙◌, subst, arith}
 use Rattle.std.specs.Prelude.{Contains}
 use Rattle.std.specs.List.{flat_map}
 use Rattle.std.proofs.lemmas.List.{append-nil, map-append}
 use Rattle.std.proofs.lemmas.List.Elements.{Contains-append_left, Contains-append_right}
 use Rattle.std.proofs.lemmas.Grind.{flat_map-append}
 use Rattle.std.proofs.Math.Nat.{suc-mul}
-use mathlib.Core.Logic.{inl, inr}
+use mathlib.Core.Logic.{inl}
 use Rattle.agent_link.specs.Clocks.{step_reading, step_readings}
 use Rattle.agent_link.specs.Wires.{onto_last}
-use Rattle.agent_journal.specs.declared.entry.Cause.{Cause}
 use Rattle.agent_journal.specs.declared.entry.Entry.{Entry}
-use Rattle.agent_journal.specs.Readings.{last_time_of}
 use Rattle.agent_journal.specs.Wires.{connections, is_opened, sent, sent_by, heard, heard_by, Wired, Heard, EachTied, IsTied, AreReadings}
-use Rattle.replay_run.specs.Replayed.{World, with_entry}
 
 onto_nothing : (ws : List (List ℕ)) → onto_last ws [] ≡ ws
 onto_nothing [] = refl
