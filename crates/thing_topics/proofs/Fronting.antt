@@ -7,6 +7,7 @@ use Rattle.thing_topics.specs.declared.faults.TopicFault.TheVariants as faults
 use Rattle.thing_topics.specs.Classes.{is_thing}
 use Rattle.thing_topics.specs.Cuts.{behind, first_level, onto_level}
 use Rattle.thing_topics.specs.Fronts.{root, front_of, front_text, behind_some}
+use Rattle.thing_topics.specs.Faults.{StandsBehind}
 use Rattle.thing_topics.specs.Readings.{◌>>=◌, or_fault, tested}
 use Rattle.thing_topics.proofs.Cutting.{behind_front, front_behind, level_cut}
 use Rattle.thing_topics.proofs.Slashes.{thing_no_slash}
@@ -45,25 +46,20 @@ front_read service thing rest class =
     append_assoc (root ++ thing) (47 ∷ service) rest ∙ append_assoc root thing (47 ∷ service ++ rest) in
     rw (whole, behind_front root (thing ++ 47 ∷ (service ++ rest)), level_cut thing (service ++ rest) (thing_no_slash thing class), class, behind_front service rest) refl
 
-abbrev ended : List ℕ → List ℕ → Result (List ℕ × List ℕ) TopicFault
+abbrev pub ended : List ℕ → List ℕ → Result (List ℕ × List ℕ) TopicFault
 ended thing below = Ok (thing, below)
 
-abbrev from_level : List ℕ → List ℕ × Option (List ℕ) → Result (List ℕ × List ℕ) TopicFault
+abbrev pub from_level : List ℕ → List ℕ × Option (List ℕ) → Result (List ℕ × List ℕ) TopicFault
 from_level service level = or_fault faults.Kind (behind_some service level.1) >>= ended level.0
 
-abbrev from_root : List ℕ → List ℕ → Result (List ℕ × List ℕ) TopicFault
+abbrev pub from_root : List ℕ → List ℕ → Result (List ℕ × List ℕ) TopicFault
 from_root service rest = tested faults.Thing (is_thing (first_level rest).0) (first_level rest) >>= from_level service
-
--- what was read is how it is written
-pub record IsFront (service text thing rest : List ℕ) : Type 0 where
-  pub class : is_thing thing ≡ true
-  pub written : text ≡ front_text thing (47 ∷ service) ++ rest
 
 behind_level : (service text : List ℕ) (level : List ℕ × Option (List ℕ)) (below : List ℕ) → level ≡ first_level text → behind_some service level.1 ≡ Some below → text ≡ level.0 ++ 47 ∷ (service ++ below)
 behind_level service text (l, None) below e h = absurd (cc h)
 behind_level service text (l, Some rest) below e h = level_back text l rest (sym e) ∙ ap (λ t. l ++ 47 ∷ t) (front_behind service rest below h)
 
-pub front_back : (service text thing rest : List ℕ) → front_of service text ≡ Ok (thing, rest) → IsFront service text thing rest
+pub front_back : (service text thing rest : List ℕ) → front_of service text ≡ Ok (thing, rest) → StandsBehind service text thing rest
 unfolding front_of
 front_back service text thing rest h =
     let root_passed = passed (or_fault faults.Root (behind root text)) (from_root service) (thing, rest) h in

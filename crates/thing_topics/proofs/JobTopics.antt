@@ -19,7 +19,7 @@ use Rattle.thing_topics.proofs.Cutting.{HasNoSlash, level_cut}
 use Rattle.thing_topics.proofs.Fronting.{level_back, front_read, front_back}
 use Rattle.thing_topics.proofs.Slashes.{job_no_slash, next_no_slash}
 
-job_word_found : (kind : JobsKind) → takes_job kind ≡ true → job_kind_of (word kind) ≡ Some kind
+pub job_word_found : (kind : JobsKind) → takes_job kind ≡ true → job_kind_of (word kind) ≡ Some kind
 unfolding job_kind_of
 job_word_found kinds.Notify h = absurd (cc h)
 job_word_found kinds.NotifyNext h = absurd (cc h)
@@ -138,10 +138,10 @@ found_back : (rest : List ℕ) (found : Option (List ℕ) × JobsKind) → found
 unfolding found_in
 found_back rest found h = found_back_by rest (job_in rest) found refl h
 
-abbrev ended : List ℕ → Option (List ℕ) × JobsKind → Result Parts TopicFault
+abbrev pub ended : List ℕ → Option (List ℕ) × JobsKind → Result Parts TopicFault
 ended thing found = Ok (parts_of thing found.0 found.1)
 
-abbrev from_front : List ℕ × List ℕ → Result Parts TopicFault
+abbrev pub from_front : List ℕ × List ℕ → Result Parts TopicFault
 from_front front = found_in front.1 >>= ended front.0
 
 joined : (text thing rest : List ℕ) (job : Option (List ℕ)) (kind : JobsKind) → is_thing thing ≡ true → text ≡ front_text thing (codes "/jobs/") ++ rest → IsFound rest job kind → IsTopic text (parts_of thing job kind)

@@ -5,3 +5,7 @@ pub mod Fronting
 pub mod ShadowTopics
 pub mod JobTopics
 pub mod StreamTopics
+pub mod Faulting
+pub mod ShadowFaults
+pub mod JobFaults
+pub mod StreamFaults

@@ -102,13 +102,13 @@ place_back : (rest : List ℕ) (name : Option (List ℕ)) (text : List ℕ) → 
 unfolding place_of
 place_back rest name text h = place_back_by rest (behind (codes "name/") rest) name text refl h
 
-abbrev ended : List ℕ → Option (List ℕ) → ShadowKind → Result Parts TopicFault
+abbrev pub ended : List ℕ → Option (List ℕ) → ShadowKind → Result Parts TopicFault
 ended thing name kind = Ok (parts_of thing name kind)
 
-abbrev from_place : List ℕ → Option (List ℕ) × List ℕ → Result Parts TopicFault
+abbrev pub from_place : List ℕ → Option (List ℕ) × List ℕ → Result Parts TopicFault
 from_place thing place = or_fault faults.Kind (kind_of place.1) >>= ended thing place.0
 
-abbrev from_front : List ℕ × List ℕ → Result Parts TopicFault
+abbrev pub from_front : List ℕ × List ℕ → Result Parts TopicFault
 from_front front = tested faults.Part (has_class (place_of front.1).0) (place_of front.1) >>= from_place front.0
 
 joined : (text thing rest : List ℕ) (name : Option (List ℕ)) (kind : ShadowKind) → is_thing thing ≡ true → has_class name ≡ true

@@ -42,13 +42,13 @@ unfolding kind_of
 kind_back rest (level, None) kind e h = absurd (cc h)
 kind_back rest (level, Some below) kind e h = level_back rest level below e ∙ ap (λ t. level ++ 47 ∷ t) (sym (written_so word (λ k. true) all_kinds below kind refl h).0)
 
-abbrev ended : List ℕ → List ℕ → StreamKind → Result Parts TopicFault
+abbrev pub ended : List ℕ → List ℕ → StreamKind → Result Parts TopicFault
 ended thing stream kind = Ok (parts_of thing stream kind)
 
-abbrev from_level : List ℕ → List ℕ × Option (List ℕ) → Result Parts TopicFault
+abbrev pub from_level : List ℕ → List ℕ × Option (List ℕ) → Result Parts TopicFault
 from_level thing level = or_fault faults.Kind (option_and_then kind_of level.1) >>= ended thing level.0
 
-abbrev from_front : List ℕ × List ℕ → Result Parts TopicFault
+abbrev pub from_front : List ℕ × List ℕ → Result Parts TopicFault
 from_front front = tested faults.Part (is_stream (first_level front.1).0) (first_level front.1) >>= from_level front.0
 
 joined : (text thing rest stream : List ℕ) (kind : StreamKind) → is_thing thing ≡ true → is_stream stream ≡ true

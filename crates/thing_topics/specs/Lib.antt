@@ -5,4 +5,5 @@ pub mod Fronts
 pub mod Shadows
 pub mod Jobs
 pub mod Streams
+pub mod Faults
 pub mod Laws

@@ -3,6 +3,7 @@
 ghost use Rattle.std.specs.Prelude.{◌≡◌, ◌≤◌, length, IfOk, IfErr, Ok, IfNone, IfSome, IsTrue};
 ghost use Rattle.std.specs.Option.{option_copied, option_map};
 ghost use Rattle.arrayvec.specs.ArrayString.{array_string_len};
+ghost use Rattle.thing_topics.specs.Faults.{IsJobsFault};
 ghost use Rattle.thing_topics.specs.Readings.{Gives, fault_in};
 ghost use Rattle.thing_topics.specs.Jobs as jobs;
 
@@ -145,6 +146,7 @@ fn with_job(mut topic: TopicText, job: Option<&str>) -> TopicText
 pub fn match_jobs(text: &str) -> Result<JobsMatch<'_>, TopicFault>
     ensures reading { Gives jobs.found_parts result (jobs.read text.now) }
     ensures topic { IfOk result (λ found. jobs.IsTopic text.now (jobs.found_parts found)) }
+    ensures fault { IfErr result (λ fault. IsJobsFault text.now fault) }
     ensures none { IfErr result (λ _. (parts : jobs.Parts) → jobs.IsTopic text.now parts → ⊥) }
 {
     read(text)

@@ -17,3 +17,18 @@ pub fn jobs_readings_are_topics()
 pub fn stream_readings_are_topics()
     ensures { laws.StreamReadingsAreTopics }
 {}
+
+/// A text is refused as a shadow's topic with a fault exactly where the fault is its own.
+pub fn shadow_faults_are_their_own()
+    ensures { laws.ShadowFaultsAreTheirOwn }
+{}
+
+/// A text is refused as a topic of jobs with a fault exactly where the fault is its own.
+pub fn jobs_faults_are_their_own()
+    ensures { laws.JobsFaultsAreTheirOwn }
+{}
+
+/// A text is refused as a stream's topic with a fault exactly where the fault is its own.
+pub fn stream_faults_are_their_own()
+    ensures { laws.StreamFaultsAreTheirOwn }
+{}

@@ -3,6 +3,7 @@
 ghost use Rattle.std.specs.Prelude.{◌≡◌, ◌≤◌, length, IfOk, IfErr, Ok, IfNone, IfSome, IsTrue};
 ghost use Rattle.arrayvec.specs.ArrayString.{array_string_len};
 ghost use Rattle.std.specs.Option.{option_copied};
+ghost use Rattle.thing_topics.specs.Faults.{IsShadowFault};
 ghost use Rattle.thing_topics.specs.Readings.{Gives, fault_in};
 ghost use Rattle.thing_topics.specs.Shadows as shadows;
 
@@ -140,6 +141,7 @@ fn with_name(mut topic: TopicText, name: Option<&str>) -> TopicText
 pub fn match_shadow(text: &str) -> Result<ShadowMatch<'_>, TopicFault>
     ensures reading { Gives shadows.found_parts result (shadows.read text.now) }
     ensures topic { IfOk result (λ found. shadows.IsTopic text.now (shadows.found_parts found)) }
+    ensures fault { IfErr result (λ fault. IsShadowFault text.now fault) }
     ensures none { IfErr result (λ _. (parts : shadows.Parts) → shadows.IsTopic text.now parts → ⊥) }
 {
     read(text)

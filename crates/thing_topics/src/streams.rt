@@ -2,6 +2,7 @@
 
 ghost use Rattle.std.specs.Prelude.{◌≡◌, ◌≤◌, length, IfOk, IfErr, Ok, IfNone};
 ghost use Rattle.std.specs.Option.{option_copied};
+ghost use Rattle.thing_topics.specs.Faults.{IsStreamFault};
 ghost use Rattle.thing_topics.specs.Readings.{Gives, fault_in};
 ghost use Rattle.thing_topics.specs.Streams as streams;
 
@@ -95,6 +96,7 @@ fn topic_text(thing: &str, stream: &str, kind: StreamKind) -> TopicText
 pub fn match_stream(text: &str) -> Result<StreamMatch<'_>, TopicFault>
     ensures reading { Gives streams.found_parts result (streams.read text.now) }
     ensures topic { IfOk result (λ found. streams.IsTopic text.now (streams.found_parts found)) }
+    ensures fault { IfErr result (λ fault. IsStreamFault text.now fault) }
     ensures none { IfErr result (λ _. (parts : streams.Parts) → streams.IsTopic text.now parts → ⊥) }
 {
     read(text)

@@ -1,4 +1,5 @@
 use Rattle.thing_topics.proofs.StreamTopics.{told, refused}
+use Rattle.thing_topics.proofs.StreamFaults.{faulted}
 use Rattle.thing_topics.proofs.streams.match_stream.Goals as goal
 
 pub returns-clause-topic : goal.returns-clause-topic
@@ -6,3 +7,6 @@ returns-clause-topic c = told _ c.args.text.now c.read.result c.read.ensures
 
 pub returns-clause-none : goal.returns-clause-none
 returns-clause-none c = refused _ c.args.text.now c.read.result c.read.ensures
+
+pub returns-clause-fault : goal.returns-clause-fault
+returns-clause-fault c = faulted _ c.args.text.now c.read.result c.read.ensures
