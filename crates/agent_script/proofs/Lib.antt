@@ -1,0 +1,3 @@
+pub mod FewLines
+pub mod Digits
+pub mod ScriptLoops

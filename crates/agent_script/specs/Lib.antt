@@ -1,0 +1,5 @@
+pub mod Numbers
+pub mod Requests
+pub mod Steps
+pub mod Scripts
+pub mod ScriptReading

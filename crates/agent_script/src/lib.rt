@@ -1,0 +1,13 @@
+//! Scripts: what the tasks of a run ask, read from their text.
+#![tactic(auto)]
+
+mod numbers;
+mod requests;
+mod script;
+mod steps;
+
+pub use agent_journal::{Line, Script, ScriptFault, Step};
+pub use script::read_script;
+
+#[cfg(test)]
+mod tests;
