@@ -1,0 +1,9 @@
+mod Again
+mod Bits
+mod Chunks
+mod Members
+mod Puts
+mod ReadBack
+mod Relation
+mod Shorter
+mod Utf8

@@ -1,0 +1,6 @@
+use Rattle.std.proofs.Common.{rules}
+use Rattle.std.proofs.lemmas.Slice.{overwrites}
+use Rattle.stream_blocks.proofs.put.put.Goals as goal
+
+pub returns-clause-back : goal.returns-clause-back
+returns-clause-back c = search (rules, overwrites)

@@ -1,0 +1,5 @@
+pub mod Grammar
+pub mod Spelling
+pub mod Reading
+pub mod Sets
+pub mod Laws
