@@ -1,0 +1,25 @@
+//! One open command.
+
+use agent_journal::Request;
+use std::marker::Model;
+
+/// A command that was sent and isn't complete. Contracts see the reading of that name.
+#[derive(Debug, Drop)]
+pub struct Pending {
+    /// The identifier of its packet, above 0 (MQTT 3.1.1, section 2.3.1).
+    pub id: u16,
+    /// The task that asked.
+    pub task: u32,
+    /// The number of the request among those of its task, from 0.
+    pub seq: u32,
+    /// What was asked.
+    pub request: Request,
+}
+
+impl Model for Pending {
+    ghost use Rattle.agent_journal.specs.Readings.{Pending as Command};
+
+    ghost Value = { Command };
+
+    ghost view = { λ p. record { id = p.id; task = p.task; seq = p.seq; request = p.request } };
+}
