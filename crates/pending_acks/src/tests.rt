@@ -56,7 +56,7 @@ fn the_others_keep_their_order(rt: HostRuntime) -> Result<(), Fail> {
     assert_eq!(rt; taken.seq, 1_024);
     assert_eq!(rt; commands.len(), 1_023);
     assert!(rt; commands.find(512).is_none());
-    if !commands.is_full() && !commands.has(512) {
+    if !commands.is_full() && !commands.has(taken.id) {
         commands.add(taken);
     }
     assert!(rt; commands.find(512).is_some());
