@@ -1,8 +1,9 @@
 //! Domeweave: an MQTT 3.1.1 agent for firmware developers.
 #![tactic(auto)]
 
-ghost use Rattle.std.specs.Prelude.{◌≡◌, ◌≢◌, map, Some, IfSome, IfOk};
+ghost use Rattle.std.specs.Prelude.{◌≡◌, ◌≢◌, map, Some, None, IfSome, IfOk};
 ghost use Rattle.std.specs.String.{string_bytes};
+ghost use Rattle.agent_link.specs.Counts.{Rose};
 ghost use Rattle.replay_run.specs.declared.words.RunWords.{RunWords};
 ghost use Rattle.replay_run.specs.Answers.{Answers};
 ghost use Rattle.agent_main.specs.Answers.{whole_answer};
@@ -50,6 +51,9 @@ fn run<S: Source, O: Sink>(alloc: Global, arguments: &[String], source: &mut S, 
         Answers result (O.written sink.old) (O.written sink.new) (whole_answer (map string_bytes arguments.now) text)) }
     ensures history { IfSome (S.left source.old) (λ text. HasRun result → (w : RunWords) → words_of (map string_bytes arguments.now) ≡ Some w →
         PrintsReplay w text result (O.written sink.old) (O.written sink.new)) }
+    ensures words { result ≡ 1 → words_of (map string_bytes arguments.now) ≡ None }
+    ensures source_fault { result ≡ 9 → Rose (S.faults source.old) (S.faults source.new) }
+    ensures sink_fault { result ≡ 8 → Rose (O.faults sink.old) (O.faults sink.new) }
 {
     match words_in(alloc, arguments) {
         Ok(words) => top(alloc, words.as_slice(), source, sink),
