@@ -28,11 +28,10 @@ use Rattle.agent_journal.proofs.Once.{answered_in, answered_by}
 use Rattle.agent_table.specs.Arrivals.{arrived_row, arrived_in, opening_row, up_row, connack_row, first_row, resumed_row, publish_row, message_row, puback_row, pubrec_row, pubcomp_row, suback_row, unsuback_row, awaited}
 use Rattle.agent_table.specs.Breaks.{opened_row, broke_row, fault_row, end_row, idle_row, bytes_row, keep_alive_row, in_full_row, gave_up_row, tick_row, finish_row, down}
 use Rattle.agent_table.specs.Deliveries.{is_among, is_open_publish, is_exactly_once}
-use Rattle.agent_table.specs.Effects.{done, cancel_all, close, closed_below, lose_session, resume, again_by, renew, subscribes, unsure, routes, topics_of, pass, passed_below, is_reached, used}
+use Rattle.agent_table.specs.Effects.{done, cancel_all, close, closed_below, lose_session, resume, again_by, renew, subscribes, pass, passed_below, is_reached, used}
 use Rattle.agent_table.specs.Identifiers.{fresh}
 use Rattle.agent_table.specs.Readings.{Readings}
 use Rattle.agent_table.specs.Rows.{Row, to, when, ends}
-use Rattle.agent_table.specs.Sessions.{is_wiping, is_first}
 use Rattle.agent_table.specs.Sizes.{Sizes}
 use Rattle.agent_table.specs.Table.{row_of, cause_row}
 use Rattle.agent_table.specs.Takes as takes
@@ -128,8 +127,8 @@ module _ (t q : ℕ) where
   within_ends : (s : Setup) (r : Readings) → Within (opened t q r.pending) (ends s r)
   within_ends s r = then_none (opened t q r.pending) (cancel_all r) (close s r) (all_open o.Cancelled r.pending) (none_closed s.tasks r.left)
 
-  none_renewed : (r : Readings) (filters : List (List ℕ)) → AtMost 0 (renew r filters)
-  none_renewed r filters = none_subscribed (length filters) r.last_drawn (used r) _
+  none_renewed : (r : Readings) (asks : List Ask) → AtMost 0 (renew r asks)
+  none_renewed r asks = none_subscribed (length asks) r.last_drawn (used r) asks
 
   none_resumed : (r : Readings) → AtMost 0 (resume r)
   none_resumed r =
@@ -142,17 +141,17 @@ module _ (t q : ℕ) where
 
   within_resumed : (r : Readings) (present : Bool) → Within (opened t q r.pending) (resumed_row r present)
   within_resumed r true =
-      none_most (opened t q r.pending) (resume r ++ renew r (unsure r))
-      (then_none 0 (resume r) (renew r (unsure r)) (none_resumed r) (none_renewed r (unsure r)))
-  within_resumed r false = then_none (opened t q r.pending) (lose_session r) _ (part_open o.SessionLost _ r.pending) (none_renewed r (topics_of (routes r)))
+      none_most (opened t q r.pending) (resume r ++ renew r r.unsure)
+      (then_none 0 (resume r) (renew r r.unsure) (none_resumed r) (none_renewed r r.unsure))
+  within_resumed r false = then_none (opened t q r.pending) (lose_session r) _ (part_open o.SessionLost _ r.pending) (none_renewed r r.renewable)
 
   within_connack : (s : Setup) (r : Readings) (present : Bool) (code : ℕ) → Within (opened t q r.pending) (connack_row s r present code)
   unfolding connack_row
   within_connack s r present code =
       let n = opened t q r.pending in
       within_if n (not (code == 0)) (ends s r) _ (within_ends s r)
-      (within_if n (is_wiping s r.accepted) (to Down (f.Send p.Disconnect ∷ [])) _ (omega arith)
-      (within_if n (is_first s r.accepted) (first_row s r present) (resumed_row r present) (within_first s r present) (within_resumed r present)))
+      (within_if n r.wiping (to Down (f.Send p.Disconnect ∷ [])) _ (omega arith)
+      (within_if n r.first (first_row s r present) (resumed_row r present) (within_first s r present) (within_resumed r present)))
 
   within_opening : (s : Setup) (r : Readings) (packet : Packet) → Within (opened t q r.pending) (opening_row s r packet)
   within_opening s r (p.Connect clean keep_alive client will user password) = within_ends s r

@@ -29,13 +29,12 @@ use Rattle.agent_journal.specs.Readings.{Pending}
 use Rattle.agent_table.specs.Arrivals.{arrived_row, arrived_in, opening_row, up_row, connack_row, first_row, resumed_row, publish_row, message_row, puback_row, pubrec_row, pubcomp_row, suback_row, unsuback_row, awaited, is_subscribe, is_unsubscribe, at, publishes_at, all_done, all_granted}
 use Rattle.agent_table.specs.Breaks.{opened_row, broke_row, fault_row, end_row, idle_row, bytes_row, keep_alive_row, in_full_row, gave_up_row, tick_row, finish_row, down}
 use Rattle.agent_table.specs.Deliveries.{publishes, is_among, is_open_publish, is_at_least_once, is_exactly_once}
-use Rattle.agent_table.specs.Effects.{done, cancel_all, close, closed_below, lose_session, resume, again_by, renew, subscribes, unsure, routes, topics_of, pass, passed_below, is_reached, used}
+use Rattle.agent_table.specs.Effects.{done, cancel_all, close, closed_below, lose_session, resume, again_by, renew, subscribes, pass, passed_below, is_reached, used}
 use Rattle.agent_table.specs.Identifiers.{fresh}
 use Rattle.agent_table.specs.Histories.{readings, row, effects_of}
 use Rattle.agent_table.specs.Laws.{IsOneOf, Acknowledges, AcknowledgesPublish, EarnsOutcome, Earns, OutcomesAreEarned}
 use Rattle.agent_table.specs.Readings.{Readings}
 use Rattle.agent_table.specs.Rows.{Row, to, when, ends}
-use Rattle.agent_table.specs.Sessions.{is_wiping, is_first}
 use Rattle.agent_table.specs.Sizes.{Sizes}
 use Rattle.agent_table.specs.Table.{row_of, cause_row}
 use Rattle.agent_table.specs.Takes as takes
@@ -102,8 +101,8 @@ module _ (r : Readings) (cause : Cause) where
   good_subscribed (suc k) last in_use [] = tt
   good_subscribed (suc k) last in_use (ask ∷ asks) = (tt, good_subscribed k (fresh last in_use) (fresh last in_use ∷ in_use) (drop 8 (ask ∷ asks)))
 
-  good_renewed : (filters : List (List ℕ)) → Good (renew r filters)
-  good_renewed filters = good_subscribed (length filters) r.last_drawn (used r) _
+  good_renewed : (asks : List Ask) → Good (renew r asks)
+  good_renewed asks = good_subscribed (length asks) r.last_drawn (used r) asks
 
   abbrev GoodRow : Option Row → Type 0
   GoodRow None = Unit {0}
@@ -137,14 +136,14 @@ module _ (r : Readings) (cause : Cause) where
       both (map (λ id. f.Send (p.PubRel id)) r.released) (flat_map (λ command. again_by command.id command.request) rest) (good_released r.released) (good_again rest)
 
   good_resumed : (present : Bool) → GoodRow (resumed_row r present)
-  good_resumed true = both (resume r) (renew r (unsure r)) good_resume (good_renewed (unsure r))
-  good_resumed false = both (lose_session r) (renew r (topics_of (routes r))) (all_of o.SessionLost _ (λ command h. tt)) (good_renewed (topics_of (routes r)))
+  good_resumed true = both (resume r) (renew r r.unsure) good_resume (good_renewed r.unsure)
+  good_resumed false = both (lose_session r) (renew r r.renewable) (all_of o.SessionLost _ (λ command h. tt)) (good_renewed r.renewable)
 
   good_connack : (s : Setup) (present : Bool) (code : ℕ) → GoodRow (connack_row s r present code)
   unfolding connack_row
   good_connack s present code =
       good_if (not (code == 0)) (ends s r) _ (good_ends s)
-      (good_if (is_wiping s r.accepted) (to Down (f.Send p.Disconnect ∷ [])) _ (tt, tt) (good_if (is_first s r.accepted) (first_row s r present) (resumed_row r present) (good_first s present) (good_resumed present)))
+      (good_if r.wiping (to Down (f.Send p.Disconnect ∷ [])) _ (tt, tt) (good_if r.first (first_row s r present) (resumed_row r present) (good_first s present) (good_resumed present)))
 
   good_opening : (s : Setup) (packet : Packet) → GoodRow (opening_row s r packet)
   good_opening s (p.Connect clean keep_alive client will user password) = good_ends s

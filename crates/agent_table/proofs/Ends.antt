@@ -32,7 +32,6 @@ use Rattle.agent_table.specs.Deliveries.{is_among}
 use Rattle.agent_table.specs.Effects.{cancel_all, close, lose_link, pass}
 use Rattle.agent_table.specs.Readings.{Readings}
 use Rattle.agent_table.specs.Rows.{Row, to, when, ends}
-use Rattle.agent_table.specs.Sessions.{is_wiping, is_first}
 use Rattle.agent_table.specs.Sizes.{Sizes}
 use Rattle.agent_table.specs.Table.{row_of, cause_row}
 use Rattle.agent_table.specs.Takes as takes
@@ -40,7 +39,7 @@ use Rattle.agent_table.proofs.Counts.{opened, dones, count_append, count_more, a
 
 -- an accepting CONNACK on a connection that isn't wiping
 abbrev pub Accepts : Setup → Readings → Cause → Type 0
-Accepts s r cause = (accepts cause ≡ true) × (is_wiping s r.accepted ≡ false)
+Accepts s r cause = (accepts cause ≡ true) × (r.wiping ≡ false)
 
 -- what is open of command q of task t is completed by these effects, and so is what the cause takes
 abbrev pub Completed : ℕ → ℕ → Readings → ℕ → List Effect → Type 0
@@ -53,7 +52,7 @@ Leads t q s r cause (Some row) = (row.phase ≡ Off → Completed t q r (answere
 -- in Off nothing is open, and before the first session neither
 pub record Before (t q : ℕ) (s : Setup) (r : Readings) : Type 0 where
   pub off : r.phase ≡ Off → opened t q r.pending ≡ 0
-  pub first : is_first s r.accepted ≡ true → opened t q r.pending ≡ 0
+  pub first : r.first ≡ true → opened t q r.pending ≡ 0
 
 module _ (t q : ℕ) (s : Setup) (r : Readings) (before : Before t q s r) where
   to_off : (cause : Cause) (effects : List Effect) → Completed t q r (answered_by t q cause) effects → Leads t q s r cause (to Off effects)
@@ -91,7 +90,7 @@ module _ (t q : ℕ) (s : Setup) (r : Readings) (before : Before t q s r) where
   is_zero : (code : ℕ) → not (code == 0) ≡ false → (code == 0) ≡ true
   is_zero code e = flipped (code == 0) e
 
-  leads_first : (present : Bool) (code : ℕ) → Accepts s r (c.Arrived (p.ConnAck present code)) → is_first s r.accepted ≡ true → Leads t q s r (c.Arrived (p.ConnAck present code)) (first_row s r present)
+  leads_first : (present : Bool) (code : ℕ) → Accepts s r (c.Arrived (p.ConnAck present code)) → r.first ≡ true → Leads t q s r (c.Arrived (p.ConnAck present code)) (first_row s r present)
   leads_first false code accepted first = to_up (c.Arrived (p.ConnAck false code)) [] (inr accepted)
   leads_first true code accepted first = to_off (c.Arrived (p.ConnAck true code)) (close s r) (let none = before.first first in omega (arith, none))
 
@@ -104,8 +103,8 @@ module _ (t q : ℕ) (s : Setup) (r : Readings) (before : Before t q s r) where
   leads_connack present code =
       let cause = c.Arrived (p.ConnAck present code) in
       leads_if cause (not (code == 0)) (ends s r) _ (λ e. leads_ends cause refl)
-      (λ zero_is. leads_if cause (is_wiping s r.accepted) (to Down (f.Send p.Disconnect ∷ [])) _ (λ e. to_down cause (f.Send p.Disconnect ∷ []))
-      (λ keeps. leads_if cause (is_first s r.accepted) (first_row s r present) (resumed_row r present) (λ first. leads_first present code (is_zero code zero_is, keeps) first)
+      (λ zero_is. leads_if cause r.wiping (to Down (f.Send p.Disconnect ∷ [])) _ (λ e. to_down cause (f.Send p.Disconnect ∷ []))
+      (λ keeps. leads_if cause r.first (first_row s r present) (resumed_row r present) (λ first. leads_first present code (is_zero code zero_is, keeps) first)
       (λ later. leads_resumed present code (is_zero code zero_is, keeps))))
 
   leads_opening : (packet : Packet) → Leads t q s r (c.Arrived packet) (opening_row s r packet)

@@ -7,3 +7,4 @@ pub mod Ends
 pub mod Ended
 pub mod Earned
 pub mod Received
+pub mod Fresh

@@ -17,11 +17,10 @@ use Rattle.agent_journal.specs.declared.setup.Phase.{Phase}
 use Rattle.agent_journal.specs.declared.setup.Phase.TheVariants.{Down, Opening, Up, Spilled, Off}
 use Rattle.agent_journal.specs.Readings.{Pending}
 use Rattle.agent_table.specs.Deliveries.{publishes, is_open_publish, is_among, is_at_least_once, is_exactly_once}
-use Rattle.agent_table.specs.Effects.{done, close, resume, renew, unsure, routes, topics_of, lose_session, pass}
+use Rattle.agent_table.specs.Effects.{done, close, resume, renew, lose_session, pass}
 use Rattle.agent_table.specs.Readings.{Readings}
 use Rattle.agent_table.specs.Routes.{Renewal, asks_in}
 use Rattle.agent_table.specs.Rows.{Row, to, when, ends}
-use Rattle.agent_table.specs.Sessions.{is_wiping, is_first}
 use Rattle.agent_table.specs.Sizes.{Sizes}
 
 -- ---- In Opening
@@ -38,15 +37,15 @@ first_row s r true = ends_held s r
 -- CONNACK 0, not first: with the session what is open is sent again and unsure filters are renewed; without it open
 -- publishes end and the filters of all routes are renewed (MQTT 3.1.1, sections 3.2.2.2 and 4.4).
 abbrev pub resumed_row : Readings → Bool → Option Row
-resumed_row r true = to Up (resume r ++ renew r (unsure r))
-resumed_row r false = to Up (lose_session r ++ renew r (topics_of (routes r)))
+resumed_row r true = to Up (resume r ++ renew r r.unsure)
+resumed_row r false = to Up (lose_session r ++ renew r r.renewable)
 
 -- CONNACK (section 3.2), in the order: a code above 0; wiping; first; not first.
 unfoldable pub connack_row : Setup → Readings → Bool → ℕ → Option Row
 connack_row s r present code =
     if not (code == 0) then ends s r
-    else if is_wiping s r.accepted then to Down (f.Send p.Disconnect ∷ [])
-    else if is_first s r.accepted then first_row s r present
+    else if r.wiping then to Down (f.Send p.Disconnect ∷ [])
+    else if r.first then first_row s r present
     else resumed_row r present
 
 -- Any other packet is wrong: CONNACK is the first one that a server sends (section 3.2).

@@ -11,11 +11,10 @@ use Rattle.agent_journal.specs.Rows.{connect, all_left, is_none}
 use Rattle.agent_table.specs.Effects.{lose_link}
 use Rattle.agent_table.specs.Readings.{Readings}
 use Rattle.agent_table.specs.Rows.{Row, to, when, ends}
-use Rattle.agent_table.specs.Sessions.{is_wiping}
 
 -- Opened: in Down, while breaks are at most reopen, CONNECT is sent (MQTT 3.1.1, section 3.1), clean exactly where wiping.
 unfoldable pub opened_row : Setup → Readings → Phase → Option Row
-opened_row s r Down = when (nat_le r.breaks s.reopen) (to Opening (f.Send (connect s (is_wiping s r.accepted)) ∷ []))
+opened_row s r Down = when (nat_le r.breaks s.reopen) (to Opening (f.Send (connect s r.wiping) ∷ []))
 opened_row s r Opening = None
 opened_row s r Up = None
 opened_row s r Spilled = None

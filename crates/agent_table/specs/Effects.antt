@@ -15,10 +15,8 @@ use Rattle.agent_journal.specs.declared.effect.Effect.TheVariants as f
 use Rattle.agent_journal.specs.declared.setup.Setup.{Setup}
 use Rattle.agent_journal.specs.Readings.{Pending}
 use Rattle.agent_table.specs.Deliveries.{publishes, is_among}
-use Rattle.agent_table.specs.Filters.{is_one_of, sorted}
 use Rattle.agent_table.specs.Identifiers.{fresh}
 use Rattle.agent_table.specs.Readings.{Readings}
-use Rattle.agent_table.specs.Routes.{Route, routes_from}
 
 -- the completion of an open command
 abbrev pub done : Outcome → Pending → Effect
@@ -72,34 +70,24 @@ used r = map (λ command. command.id) r.pending ++ map (λ renewal. renewal.id) 
 abbrev pub fresh_id : Readings → ℕ
 fresh_id r = fresh r.last_drawn (used r)
 
--- ---- Routes
+-- ---- Renewals
 
-abbrev pub routes : Readings → List Route
-routes r = routes_from r.left r.pending r.granted
-
-abbrev pub topics_of : List Route → List (List ℕ)
-topics_of rs = map (λ r. r.topics) rs
-
--- filters of routes whose session was lost and that no SUBACK granted since
-abbrev pub unsure : Readings → List (List ℕ)
-unsure r = filter (λ topics. r.lost && not (is_one_of r.sure topics)) (topics_of (routes r))
-
--- SUBSCRIBEs of these filters, at most eight to a packet, each with a fresh identifier in turn. There are at most k packets.
+-- SUBSCRIBEs that ask for these, at most eight to a packet, each with a fresh identifier in turn. There are at most k packets.
 abbrev pub subscribes : ℕ → ℕ → List ℕ → List Ask → List Effect
 subscribes zero last in_use asks = []
 subscribes (suc k) last in_use [] = []
 subscribes (suc k) last in_use (ask ∷ asks) =
     f.Send (p.Subscribe (fresh last in_use) (take 8 (ask ∷ asks))) ∷ subscribes k (fresh last in_use) (fresh last in_use ∷ in_use) (drop 8 (ask ∷ asks))
 
--- Renew a set of filters: in the increasing order of their bytes.
-abbrev pub renew : Readings → List (List ℕ) → List Effect
-renew r filters = subscribes (length filters) r.last_drawn (used r) (map (λ topics. record { filter = topics; qos = r.qos topics }) (sorted filters))
+-- Renew: ask again, in the order that is given.
+abbrev pub renew : Readings → List Ask → List Effect
+renew r asks = subscribes (length asks) r.last_drawn (used r) asks
 
 -- ---- Messages
 
 -- whether a task, which hasn't left, has a route that fits this name
 abbrev pub is_reached : Readings → List ℕ → ℕ → Bool
-is_reached r name task = list_any (λ other. other.task == task && fits other.topics name) (routes r)
+is_reached r name task = list_any (λ other. other.task == task && fits other.topics name) r.routes
 
 -- a Pass to each of these tasks that is reached, in increasing order: of those below n
 abbrev pub passed_below : ℕ → Readings → Message → List Effect

@@ -1,5 +1,5 @@
 -- Laws of the definitions.
-use Rattle.std.specs.Prelude.{◌≡◌, ◌⊎◌, ℕ, ◌+◌, ◌==◌, ◌&&◌, true, if◌then◌else◌, nat_lt, count_by, List, [], ◌∷◌, ◌++◌, Some}
+use Rattle.std.specs.Prelude.{◌≡◌, ◌⊎◌, ℕ, ◌+◌, ◌<◌, ◌≤◌, length, ◌==◌, ◌&&◌, true, false, if◌then◌else◌, nat_lt, count_by, List, [], ◌∷◌, ◌++◌, Some}
 use Rattle.std.specs.List.{AllByRecursion}
 use Rattle.mqtt_packet.specs.declared.qos.Qos.{Qos}
 use Rattle.mqtt_packet.specs.declared.qos.Qos.TheVariants.{AtMostOnce, AtLeastOnce, ExactlyOnce}
@@ -18,6 +18,7 @@ use Rattle.agent_journal.specs.Projections.{commands_of, completions_of, NoneEar
 use Rattle.agent_journal.specs.Readings.{Pending, pending_of}
 use Rattle.agent_table.specs.Deliveries.{is_among, is_open_publish, is_exactly_once, released_of}
 use Rattle.agent_table.specs.Histories.{IsLegalPast, IsWholePast, readings, row, effects_of}
+use Rattle.agent_table.specs.Identifiers.{fresh}
 use Rattle.agent_table.specs.Readings.{Readings}
 use Rattle.agent_table.specs.Sizes.{Sizes}
 
@@ -114,3 +115,7 @@ WasReceived n past =
 
 abbrev pub ReleasedWereReceived : Type 0
 ReleasedWereReceived = (past : List Entry) (n : ℕ) → is_among (released_of past) n ≡ true → WasReceived n past
+
+-- A fresh identifier is one of 1 to 65,535, and it isn't in use where not all of them are.
+abbrev pub FreshIsFresh : Type 0
+FreshIsFresh = (last : ℕ) (used : List ℕ) → last ≤ 65535 → length used < 65535 → (0 < fresh last used) × (fresh last used ≤ 65535) × (is_among used (fresh last used) ≡ false)

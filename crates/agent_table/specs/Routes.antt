@@ -18,9 +18,11 @@ use Rattle.agent_journal.specs.declared.entry.Entry.{Entry}
 use Rattle.agent_journal.specs.declared.effect.Effect.{Effect}
 use Rattle.agent_journal.specs.declared.effect.Effect.TheVariants as f
 use Rattle.agent_journal.specs.declared.setup.Setup.{Setup}
-use Rattle.agent_journal.specs.Readings.{Pending, pending_of, accepted_of}
+use Rattle.agent_journal.specs.declared.setup.Phase.{Phase}
+use Rattle.agent_journal.specs.declared.setup.Phase.TheVariants.{Down, Opening, Up, Spilled, Off}
+use Rattle.agent_journal.specs.Readings.{Pending, pending_of, accepted_of, has_left}
 use Rattle.agent_journal.specs.Wires.{sends}
-use Rattle.agent_table.specs.Filters.{is_one_of}
+use Rattle.agent_table.specs.Filters.{is_one_of, sorted}
 use Rattle.agent_table.specs.Sessions.{loses_session}
 
 pub record Route : Type 0 where
@@ -297,3 +299,32 @@ asked_in all topics (e ∷ past) = or_earlier (asked_by all topics e.cause) (ask
 
 abbrev pub qos_of : List Entry → List ℕ → Qos
 qos_of past topics = asked_in (grants_of past) topics past
+
+-- ---- What the table reads
+
+abbrev pub topics_of : List Route → List (List ℕ)
+topics_of rs = map (λ r. r.topics) rs
+
+-- the routes of tasks that haven't left
+abbrev pub routes_of : List Entry → List Route
+routes_of past = routes_from (λ t. has_left t past) (pending_of past) (granted_of past)
+
+-- Filters are asked for each once, in the increasing order of their bytes.
+abbrev pub asks_for : List Entry → List (List ℕ) → List Ask
+asks_for past filters = map (λ topics. record { filter = topics; qos = qos_of past topics }) (sorted filters)
+
+-- what is asked for the filters of all routes
+abbrev pub renewable_of : List Entry → List Ask
+renewable_of past = asks_for past (topics_of (routes_of past))
+
+-- what is asked for the unsure ones: the session was lost, and no SUBACK granted them since
+abbrev pub unsure_of : Setup → List Entry → List Ask
+unsure_of s past = asks_for past (filter (λ topics. lost_of s past && not (is_one_of (sure_of s past) topics)) (topics_of (routes_of past)))
+
+-- It is asked in Opening alone, where no subscribe is open.
+abbrev pub while_opening : Phase → List Ask → List Ask
+while_opening Down asks = []
+while_opening Opening asks = asks
+while_opening Up asks = []
+while_opening Spilled asks = []
+while_opening Off asks = []

@@ -15,7 +15,7 @@ use Rattle.agent_journal.specs.declared.effect.Effect.TheVariants as f
 use Rattle.agent_journal.specs.declared.setup.Setup.{Setup}
 use Rattle.agent_journal.specs.declared.setup.Phase.{Phase}
 use Rattle.agent_journal.specs.declared.setup.Phase.TheVariants.{Down, Opening, Up, Spilled, Off}
-use Rattle.agent_table.specs.Effects.{cancel_all, close, fresh_id, routes}
+use Rattle.agent_table.specs.Effects.{cancel_all, close, fresh_id}
 use Rattle.agent_table.specs.Readings.{Readings}
 use Rattle.agent_journal.specs.Requests.{is_valid}
 use Rattle.agent_table.specs.Routes.{Route, route, with_routes}
@@ -44,7 +44,7 @@ publish_row l r task seq ExactlyOnce topic payload = to Up (delivered l r task s
 
 -- the routes with those that are asked for, each pair once
 abbrev pub routes_with : Readings → ℕ → List Ask → List Route
-routes_with r task asks = with_routes (with_routes [] (routes r)) (map (λ ask. route task ask.filter) asks)
+routes_with r task asks = with_routes (with_routes [] r.routes) (map (λ ask. route task ask.filter) asks)
 
 -- SUBSCRIBE (section 3.8)
 unfoldable pub subscribe_row : Sizes → Readings → ℕ → ℕ → List Ask → Option Row
@@ -55,7 +55,7 @@ subscribe_row l r task seq asks =
 
 -- whether another task has a route for these topics
 abbrev pub other_has : Readings → ℕ → List ℕ → Bool
-other_has r task topics = list_any (λ other. not (other.task == task) && bytes_eq other.topics topics) (routes r)
+other_has r task topics = list_any (λ other. not (other.task == task) && bytes_eq other.topics topics) r.routes
 
 -- the filters that no other task has a route for, in their order
 abbrev pub own_filters : Readings → ℕ → List (List ℕ) → List (List ℕ)

@@ -72,3 +72,10 @@ pub fn outcomes_are_earned()
 pub fn released_were_received()
     ensures { laws.ReleasedWereReceived }
 {}
+
+/// A fresh identifier is none of those in use, which are fewer than there are identifiers; and it is one
+/// of 1 to 65,535 (MQTT 3.1.1, section 2.3.1).
+#[tactic(auto, using(crate::proofs::Fresh::fresh_is_fresh))]
+pub fn fresh_is_fresh()
+    ensures { laws.FreshIsFresh }
+{}
