@@ -1,0 +1,5 @@
+use Rattle.task_queues.proofs.MailboxMoves.{misses}
+use Rattle.task_queues.proofs.mailbox.Mailbox.count_empty.Goals as goal
+
+pub another-requires-clause-rule : goal.another-requires-clause-rule
+another-requires-clause-rule g c = misses _ _

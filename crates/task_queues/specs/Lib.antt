@@ -1,0 +1,9 @@
+pub mod Submissions
+pub mod Moments
+pub mod Roles
+pub mod QueueRule
+pub mod QueuePasses
+pub mod Ends
+pub mod MailboxRule
+pub mod MailboxPasses
+pub mod Laws

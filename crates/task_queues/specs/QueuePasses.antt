@@ -1,0 +1,43 @@
+-- The passes of a queue as contracts see them, each with the name of its queue.
+use Rattle.std.specs.Prelude.{ℕ, List, [], map}
+use Rattle.std.specs.List.{range_with_len}
+use Rattle.atomic_table.specs.Seated.{TableId}
+use Rattle.crossbeam_queue.specs.Fifo.{Held}
+use Rattle.task_queues.specs.declared.submission.Submission.{Submission}
+use Rattle.task_queues.specs.Moments.{Moment}
+use Rattle.task_queues.specs.Roles.{sender, receiver}
+use Rattle.task_queues.specs.QueueRule.{IsInOrder}
+
+-- A sender: its number, what it sent, and how often it found the queue full.
+pub record Sending : Type 0 where
+  pub queue : TableId
+  pub number : ℕ
+  pub sent : List Submission
+  pub fulls : ℕ
+
+-- The receiver: how many senders there are, what it took of all of them, the senders that were joined, each with all
+-- that it sent, the latest first, and how often the receiver found the queue empty.
+pub record Receiving : Type 0 where
+  pub queue : TableId
+  pub senders : ℕ
+  pub taken : List Submission
+  pub joined : List (ℕ × List Submission)
+  pub empties : ℕ
+
+abbrev pub fresh_sender : TableId → ℕ → Sending
+fresh_sender queue number = record { queue = queue; number = number; sent = []; fulls = 0 }
+
+-- senders 0, 1 and so on, this many
+abbrev pub fresh_senders : TableId → ℕ → List Sending
+fresh_senders queue count = map (fresh_sender queue) (range_with_len 0 count)
+
+abbrev pub fresh_receiver : TableId → ℕ → Receiving
+fresh_receiver queue senders = record { queue = queue; senders = senders; taken = []; joined = []; empties = 0 }
+
+-- What a look tells that found this many submissions: at a moment the rule held of these and of all views, this pass's
+-- among them.
+abbrev pub WasFull : ℕ → Sending → Type 0
+WasFull size p = Held size (Moment IsInOrder (sender p.number p.sent p.fulls))
+
+abbrev pub WasEmpty : Receiving → Type 0
+WasEmpty p = Held 0 (Moment IsInOrder (receiver p.taken p.senders p.joined p.empties))
