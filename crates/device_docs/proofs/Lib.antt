@@ -1,0 +1,9 @@
+pub mod Documents
+pub mod Views
+pub mod JobSteps
+pub mod Digests
+pub mod Sayings
+pub mod DigestTexts
+pub mod Lengths
+pub mod Writing
+pub mod Changing

@@ -1,0 +1,11 @@
+pub mod Keys
+pub mod Members
+pub mod Checks
+pub mod Answers
+pub mod Jobs
+pub mod JobSteps
+pub mod Updates
+pub mod Changes
+pub mod Executions
+pub mod Laws
+pub mod Examples
