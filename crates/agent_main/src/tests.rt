@@ -2,7 +2,7 @@
 //! hand.
 
 use super::*;
-use agent_core::{Core, Phase, Setup};
+use first_core::{Core, Phase, Setup};
 use agent_journal::{Cause, commands_complete_once, first_example, has_sound_packets};
 use agent_link::{MemSink, MemSource};
 use list_types::Text;

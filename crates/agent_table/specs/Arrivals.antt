@@ -1,5 +1,5 @@
 -- The table's rows for packets that arrive.
-use Rattle.std.specs.Prelude.{ℕ, Bool, true, false, not, ◌==◌, nat_lt, List, [], ◌∷◌, ◌++◌, length, map, Option, None, if◌then◌else◌, filter}
+use Rattle.std.specs.Prelude.{ℕ, Bool, true, false, not, ◌==◌, nat_lt, List, [], ◌∷◌, ◌++◌, length, map, Option, Some, None, if◌then◌else◌, filter, find}
 use Rattle.std.specs.List.{list_any}
 use Rattle.mqtt_packet.specs.declared.qos.Qos.{Qos}
 use Rattle.mqtt_packet.specs.declared.qos.Qos.TheVariants.{AtMostOnce, AtLeastOnce, ExactlyOnce}
@@ -128,12 +128,13 @@ is_unsubscribe requests.Leave = false
 abbrev pub counts_of : List Pending → List ℕ
 counts_of commands = map (λ command. length (asks_in command.request)) commands
 
-abbrev pub renewal_counts : List Renewal → List ℕ
-renewal_counts renewals = map (λ renewal. length renewal.asks) renewals
+abbrev pub renewal_counts : Option Renewal → List ℕ
+renewal_counts None = []
+renewal_counts (Some renewal) = length renewal.asks ∷ []
 
 -- how many filters each open subscribe and each open renewal of this identifier has; there is at most one of them
 abbrev pub awaited : Readings → ℕ → List ℕ
-awaited r n = counts_of (filter (λ command. is_subscribe command.request) (at n r.pending)) ++ renewal_counts (filter (λ renewal. renewal.id == n) r.renewals)
+awaited r n = counts_of (filter (λ command. is_subscribe command.request) (at n r.pending)) ++ renewal_counts (find (λ renewal. renewal.id == n) r.renewals)
 
 -- the subscribes are granted these codes
 abbrev pub all_granted : List ℕ → List Pending → List Effect

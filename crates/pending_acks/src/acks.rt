@@ -4,7 +4,7 @@ ghost use Rattle.std.specs.Prelude.{◌≡◌, ◌<◌, ◌≤◌, ◌==◌, [],
 ghost use Rattle.std.specs.Bool.{OnFalse};
 ghost use Rattle.std.specs.List.{list_any, position};
 ghost use Rattle.std.specs.Option.{option_copied};
-ghost use Rattle.pending_acks.specs.Commands.{Differ, has_id, others};
+ghost use Rattle.pending_acks.specs.Commands.{Differ, has_id, is_command, others};
 
 use crate::pending::Pending;
 use std::alloc::{AllocError, Global};
@@ -93,9 +93,19 @@ impl<const ACKS: usize> PendingAcks<ACKS> {
 
     /// The command of an identifier.
     pub fn find(&self, id: u16) -> Option<&Pending>
-        ensures { option_copied result ≡ find (has_id id) self.now }
+        ensures found { option_copied result ≡ find (has_id id) self.now }
+        ensures differ { Differ self.now }
     {
         self.commands.iter().find(|command| command.id == id)
+    }
+
+    /// The command that a task submitted with this number.
+    pub fn find_command(&self, task: u32, seq: u32) -> Option<&Pending>
+        ensures { option_copied result ≡ find (is_command task seq) self.now }
+    {
+        self.commands
+            .iter()
+            .find(|command| command.task == task && command.seq == seq)
     }
 
     /// Whether there is a command of this identifier.

@@ -37,6 +37,8 @@ fn id_at<const ACKS: usize>(commands: &PendingAcks<ACKS>, k: usize) -> u16 {
 fn there_is_room_for_two(rt: HostRuntime) -> Result<(), Fail> {
     let mut commands = filled::<2>(rt.alloc())?;
     assert_eq!(rt; commands.len(), 2);
+    assert!(rt; commands.find_command(3, 4).is_some());
+    assert!(rt; commands.find_command(4, 4).is_none());
     let first = commands.take(1).ok_or("1 is there")?;
     assert_eq!(rt; (first.id, first.task, first.seq), (1, 3, 2));
     assert!(rt; first.request == Request::Ping);

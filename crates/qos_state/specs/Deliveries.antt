@@ -104,3 +104,7 @@ received Full n d = d
 -- behind a PUBREL of identifier n
 abbrev pub unheld : ℕ → Deliveries → Deliveries
 unheld n d = record d { held = without n d.held }
+
+-- behind the loss of the session
+abbrev pub none_held : Deliveries → Deliveries
+none_held d = record d { held = [] }

@@ -69,7 +69,6 @@ impl<const ACKS: usize, const IN: usize> QosState<ACKS, IN> {
 
     /// A publish was sent for the first time.
     pub fn start(&mut self, id: u16, qos: Qos)
-        requires id { 0 < id }
         requires fresh { d.stage_of self.old id ≡ None }
         requires acknowledged { qos ≢ AtMostOnce }
         requires room { d.open_count self.old < ACKS }
@@ -141,7 +140,6 @@ impl<const ACKS: usize, const IN: usize> QosState<ACKS, IN> {
 
     /// A QoS 2 publish came with this identifier.
     pub fn on_publish(&mut self, id: u16) -> Received
-        requires id { 0 < id }
         ensures answer { result ≡ d.arrival IN self.old id }
         ensures held { self.new ≡ d.received (d.arrival IN self.old id) id self.old }
     {
@@ -172,14 +170,21 @@ impl<const ACKS: usize, const IN: usize> QosState<ACKS, IN> {
         remove(&mut self.held, id);
     }
 
-    /// The session was lost: nothing is open, and nothing is held.
+    /// The session was lost: nothing is held. Open publishes end one by one.
+    pub fn forget_held(&mut self)
+        ensures { self.new ≡ d.none_held self.old }
+    {
+        self.held.clear();
+    }
+
+    /// Nothing is open, and nothing is held.
     pub fn forget(&mut self)
         ensures { self.new ≡ d.nothing }
     {
         self.at_least_once.clear();
         self.exactly_once.clear();
         self.released.clear();
-        self.held.clear();
+        self.forget_held();
     }
 
     /// The first PUBREC of a publish came.

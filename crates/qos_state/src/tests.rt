@@ -161,5 +161,7 @@ fn so_many_are_held(rt: HostRuntime) -> Result<(), Fail> {
         [small.on_publish(1), large.on_publish(1)],
         [Received::Full, Received::Full]
     );
+    small.forget_held();
+    assert_eq!(rt; small.on_publish(1), Received::New);
     Ok(())
 }

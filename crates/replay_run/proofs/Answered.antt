@@ -15,7 +15,7 @@ use Rattle.agent_journal.specs.Histories.{IsLegalPast}
 use Rattle.agent_journal.specs.Parts.{IsSoundEntry}
 use Rattle.agent_journal.proofs.Lawful.{has_sound_packets}
 use Rattle.agent_link.specs.Tape.{unplayed}
-use Rattle.agent_core.specs.Kept.{Kept}
+use Rattle.first_core.specs.Kept.{Kept}
 use Rattle.replay_run.specs.declared.run.Run.{Run}
 use Rattle.replay_run.specs.Runs.{world}
 use Rattle.replay_run.specs.declared.words.RunWords.{RunWords}

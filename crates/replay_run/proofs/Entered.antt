@@ -12,8 +12,8 @@ use Rattle.agent_journal.specs.Parts.{IsSoundEffect}
 use Rattle.agent_journal.specs.Setups.{is_client}
 use Rattle.agent_journal.specs.Wires.{sent_by}
 use Rattle.agent_journal.proofs.Soundness.{entry_sound}
-use Rattle.agent_core.specs.Kept.{Kept}
-use Rattle.agent_core.specs.Stands.{StandsFor}
+use Rattle.first_core.specs.Kept.{Kept}
+use Rattle.first_core.specs.Stands.{StandsFor}
 use Rattle.replay_run.specs.Replayed.{World, with_entry, entered, entered_by}
 
 pub reversed : (journal : List Entry) (e : Entry) → reverse (journal ++ e ∷ []) ≡ e ∷ reverse journal

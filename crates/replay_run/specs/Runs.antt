@@ -5,8 +5,8 @@ use Rattle.agent_journal.specs.Readings.{takes_of, has_left}
 use Rattle.agent_journal.specs.Histories.{IsLegalPast}
 use Rattle.agent_journal.specs.Endings.{ending_of}
 use Rattle.agent_journal.specs.Setups.{is_client}
-use Rattle.agent_core.specs.Kept.{Kept}
-use Rattle.agent_core.specs.Stands.{StandsFor}
+use Rattle.first_core.specs.Kept.{Kept}
+use Rattle.first_core.specs.Stands.{StandsFor}
 use Rattle.replay_run.specs.declared.run.Run.{Run}
 use Rattle.replay_run.specs.Replayed.{World}
 

@@ -14,7 +14,7 @@ use crate::exit::finish;
 use crate::report::report_of;
 use crate::run::Run;
 use crate::words::RunWords;
-use agent_core::Core;
+use first_core::Core;
 use agent_journal::Script;
 use agent_link::{Page, Sink, Tape};
 use mqtt_packet::NoMemory;

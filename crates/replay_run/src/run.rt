@@ -7,7 +7,7 @@ ghost use Rattle.agent_link.specs.Tape.{unplayed};
 ghost use Rattle.replay_run.specs.Replayed as replayed;
 
 use crate::wire::send_packets;
-use agent_core::Core;
+use first_core::Core;
 use agent_journal::{Cause, Ending, Journal, Phase, Request, Script, Step};
 use agent_link::{Clock, Fault, Heard, Link, StepClock, Tape, TapeLink};
 use list_types::Copied;

@@ -14,8 +14,8 @@ use Rattle.agent_journal.specs.declared.setup.Phase.TheVariants.{Down, Opening, 
 use Rattle.agent_journal.specs.Requests.{is_valid}
 use Rattle.agent_journal.specs.Readings.{Readings}
 use Rattle.agent_journal.specs.Rows.{row_of, cause_row, take_row, take_in, may_take, arrived_row, arrived_in, opening_row, connack_row, is_wiping, is_first}
-use Rattle.agent_core.specs.Kept.{Kept, readings_in, row_now, CanNote}
-use Rattle.agent_core.proofs.OneRows.{some_when}
+use Rattle.first_core.specs.Kept.{Kept, readings_in, row_now, CanNote}
+use Rattle.first_core.proofs.OneRows.{some_when}
 
 pub both : (a b : Bool) → (a && b) ≡ true → (a ≡ true) × (b ≡ true)
 both true true e = (refl, refl)

@@ -3,7 +3,7 @@ use Rattle.std.specs.Prelude.{◌≡◌, ℕ, false, List, [], slice_index_or}
 use Rattle.agent_journal.specs.declared.entry.Entry.{Entry}
 use Rattle.agent_journal.specs.Readings.{last_time_of, takes_of, has_left, breaks_of, accepted_of, pending_of}
 use Rattle.agent_journal.specs.Histories.{phase_of}
-use Rattle.agent_core.specs.Kept.{Kept}
+use Rattle.first_core.specs.Kept.{Kept}
 
 -- Each kept reading is that of the journal whose past this is, newest entry first.
 pub record StandsFor (k : Kept) (past : List Entry) : Type 0 where

@@ -17,11 +17,11 @@ use Rattle.agent_journal.specs.declared.setup.Phase.{Phase}
 use Rattle.agent_journal.specs.Readings.{Readings, is_leave, takes_behind, leaves_by, breaks_behind, accepted_behind, opens, stays_open}
 use Rattle.agent_journal.specs.Rows.{when, row_of, cause_row, request_row, publish_row}
 use Rattle.agent_journal.specs.Histories.{readings, row, effects_of, phase_by, due_by}
-use Rattle.agent_core.specs.Kept.{Kept, readings_in, row_now, next, takes_with, left_with}
-use Rattle.agent_core.specs.Stands.{StandsFor}
-use Rattle.agent_core.proofs.Notes.{in_time, took}
-use Rattle.agent_core.proofs.OneRows.{is_when}
-use Rattle.agent_core.proofs.OneRows.{take_is}
+use Rattle.first_core.specs.Kept.{Kept, readings_in, row_now, next, takes_with, left_with}
+use Rattle.first_core.specs.Stands.{StandsFor}
+use Rattle.first_core.proofs.Notes.{in_time, took}
+use Rattle.first_core.proofs.OneRows.{is_when}
+use Rattle.first_core.proofs.OneRows.{take_is}
 
 flag : (b : Bool) → (b ≡ true → ⊥) → b ≡ false
 flag true not_true = absurd (not_true refl)

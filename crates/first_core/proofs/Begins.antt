@@ -3,7 +3,7 @@ use Rattle.std.proofs.Common.{◌≡◌, ℕ, zero, suc, false, [], refl, get_or
 use Rattle.std.specs.Prelude.{replicate}
 use Rattle.agent_journal.specs.declared.setup.Setup.{Setup}
 use Rattle.agent_journal.specs.declared.setup.Phase.TheVariants.{Down}
-use Rattle.agent_core.specs.Stands.{StandsFor}
+use Rattle.first_core.specs.Stands.{StandsFor}
 
 same_everywhere : {A : Type 0} (n t : ℕ) (a : A) → get_or (replicate n a) t a ≡ a
 same_everywhere zero t a = refl

@@ -5,7 +5,7 @@ ghost use Rattle.std.specs.Prelude.{◌≡◌, ℕ, ◌∷◌, [], List, true, S
 ghost use Rattle.std.specs.List.{list_all};
 ghost use Rattle.agent_journal.specs.Rows as table;
 ghost use Rattle.agent_journal.specs.Histories.{effects_of, phase_by};
-ghost use Rattle.agent_core.specs.Kept.{readings_in};
+ghost use Rattle.first_core.specs.Kept.{readings_in};
 
 use super::Core;
 use agent_journal::{Cause, Effect, Effects, Outcome, Phase, Request};

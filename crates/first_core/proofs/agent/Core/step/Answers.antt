@@ -1,5 +1,5 @@
-use Rattle.agent_core.proofs.Steps.{step_stands}
-use Rattle.agent_core.proofs.agent.Core.step.Goals as goal
+use Rattle.first_core.proofs.Steps.{step_stands}
+use Rattle.first_core.proofs.agent.Core.step.Goals as goal
 
 pub returns-clause-stands : goal.returns-clause-stands
 returns-clause-stands g c =

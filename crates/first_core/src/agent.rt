@@ -5,8 +5,8 @@ ghost use Rattle.agent_journal.specs.declared.entry.Entry.{Entry};
 ghost use Rattle.agent_journal.specs.Rows as table;
 ghost use Rattle.agent_journal.specs.Histories.{row, readings, effects_of, phase_of, phase_by, due_by};
 ghost use Rattle.agent_journal.specs.Readings.{pending_of, breaks_behind, accepted_behind};
-ghost use Rattle.agent_core.specs.Kept.{readings_in, row_now, next, takes_with, left_with, CanNote};
-ghost use Rattle.agent_core.specs.Stands.{StandsFor};
+ghost use Rattle.first_core.specs.Kept.{readings_in, row_now, next, takes_with, left_with, CanNote};
+ghost use Rattle.first_core.specs.Stands.{StandsFor};
 
 mod rows;
 
@@ -31,7 +31,7 @@ pub struct Core<const ACKS: usize, const IN: usize, const ROUTES: usize> {
 
 impl<const ACKS: usize, const IN: usize, const ROUTES: usize> Model for Core<ACKS, IN, ROUTES> {
     ghost use Rattle.std.specs.Prelude.{◌≡◌, length};
-    ghost use Rattle.agent_core.specs.Kept.{Kept};
+    ghost use Rattle.first_core.specs.Kept.{Kept};
 
     ghost Value = { Kept };
 

@@ -1,9 +1,9 @@
 use Rattle.std.proofs.Common.{◌≡◌, ap, ◌∙◌, subst}
 use Rattle.std.specs.List.{list_all}
 use Rattle.agent_journal.specs.Rows.{all_left}
-use Rattle.agent_core.specs.Kept.{Kept, readings_in}
-use Rattle.agent_core.proofs.Left.{all_left_list}
-use Rattle.agent_core.proofs.agent.Core.all_left.Goals as goal
+use Rattle.first_core.specs.Kept.{Kept, readings_in}
+use Rattle.first_core.proofs.Left.{all_left_list}
+use Rattle.first_core.proofs.agent.Core.all_left.Goals as goal
 
 pub returns : goal.returns
 returns g c =
