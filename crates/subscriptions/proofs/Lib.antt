@@ -1,0 +1,12 @@
+mod Bools
+mod Lists
+mod Leasts
+mod Subacks
+mod Sets
+mod Reached
+mod Counts
+mod Additions
+mod Keeping
+mod Renewals
+mod Grants
+mod Orders

@@ -1,0 +1,4 @@
+pub mod Routing
+pub mod Rooms
+pub mod Parts
+pub mod Nearest
