@@ -1,0 +1,11 @@
+pub mod Endings
+pub mod Tied
+pub mod Awaited
+pub mod Reached
+pub mod Sending
+pub mod Renewing
+pub mod Kept
+pub mod Completions
+pub mod After
+pub mod Stands
+pub mod Laws

@@ -1,0 +1,28 @@
+-- Which journals the agent stands for: the legal ones of its setup and sizes of which it keeps the readings.
+use Rattle.std.specs.Prelude.{◌≡◌, ℕ, ◌+◌, false, List, slice_index_or}
+use Rattle.agent_journal.specs.declared.entry.Entry.{Entry}
+use Rattle.agent_journal.specs.Readings.{last_time_of, takes_of, has_left, breaks_of, accepted_of, pending_of}
+use Rattle.agent_table.specs.Deliveries.{released_of, held_of}
+use Rattle.agent_table.specs.Histories.{phase_of}
+use Rattle.agent_table.specs.Identifiers.{last_drawn_of}
+use Rattle.agent_table.specs.Readings.{sends_newest, at_most}
+use Rattle.agent_table.specs.Sessions.{ping_of, last_sent_of}
+use Rattle.agent_table.specs.Terminations.{terminated_of}
+use Rattle.agent_core.specs.Kept.{Kept}
+
+-- all but the routes
+pub record Keeps (k : Kept) (past : List Entry) : Type 0 where
+  pub phase : k.phase ≡ phase_of k.setup k.sizes past
+  pub last_time : k.last_time ≡ last_time_of past
+  pub just_sent : k.just_sent ≡ sends_newest past
+  pub takes : (t : ℕ) → slice_index_or k.takes t 0 ≡ takes_of t past
+  pub left : (t : ℕ) → slice_index_or k.left t false ≡ has_left t past
+  pub breaks : k.breaks ≡ at_most (k.setup.reopen + 2) (breaks_of past)
+  pub accepted : k.accepted ≡ at_most 2 (accepted_of past)
+  pub pending : k.pending ≡ pending_of past
+  pub released : k.released ≡ released_of past
+  pub held : k.held ≡ held_of k.setup past
+  pub last_drawn : k.last_drawn ≡ last_drawn_of past
+  pub ping : k.ping ≡ ping_of past
+  pub last_sent : k.last_sent ≡ last_sent_of past
+  pub terminated : k.terminated ≡ terminated_of past

@@ -1,0 +1,206 @@
+//! What the agent keeps, and its steps.
+
+ghost use Rattle.std.specs.Prelude.{◌≡◌, ◌<◌, ◌≤◌, ◌+◌, [], true, length, Some, is_some, false, replicate, IfOk, IfErr};
+ghost use Rattle.qos_state.specs.Deliveries as stages;
+ghost use Rattle.subscriptions.specs.Routing as routes;
+ghost use Rattle.agent_table.specs.Histories.{effects_of, phase_by, due_by};
+ghost use Rattle.agent_core.specs.After.{after};
+ghost use Rattle.agent_core.specs.Kept.{readings_in, row_now, beginning};
+
+mod acknowledged;
+mod arrived;
+mod broken;
+mod fresh;
+mod messages;
+mod resumed;
+mod rows;
+mod steps;
+mod taken;
+
+use agent_journal::{Cause, Entry, Phase, Setup, Why};
+use pending_acks::PendingAcks;
+use qos_state::QosState;
+use std::alloc::{AllocError, Global};
+use std::marker::Model;
+use subscriptions::Subscriptions;
+
+/// The sequential agent. It keeps its setup and what the table reads off the journal so far, and
+/// stands for each journal of which these are the readings.
+#[derive(Debug, Drop)]
+pub struct Core<const ACKS: usize, const IN: usize, const ROUTES: usize> {
+    alloc: Global,
+    setup: Setup,
+    phase: Phase,
+    last_time: u64,
+    just_sent: bool,
+    takes: Vec<u64>,
+    left: Vec<bool>,
+    breaks: u64,
+    accepted: u64,
+    pending: PendingAcks<ACKS>,
+    qos: QosState<ACKS, IN>,
+    subscriptions: Subscriptions<ROUTES>,
+    last_drawn: u16,
+    ping: Option<u64>,
+    last_sent: Option<u64>,
+    terminated: bool,
+}
+
+impl<const ACKS: usize, const IN: usize, const ROUTES: usize> Model for Core<ACKS, IN, ROUTES> {
+    ghost use Rattle.std.specs.Prelude.{◌≡◌, ◌≤◌, ◌+◌, length};
+    ghost use Rattle.agent_core.specs.Kept.{Kept};
+    ghost use Rattle.agent_core.specs.Tied.{IsTied, IsBounded};
+
+    ghost Value = { Kept };
+
+    ghost view = { λ c. record {
+      setup = c.setup;
+      sizes = record { acks = ACKS; inbound = IN; routes = ROUTES };
+      phase = c.phase;
+      last_time = c.last_time;
+      just_sent = c.just_sent;
+      takes = c.takes.items;
+      left = c.left.items;
+      breaks = c.breaks;
+      accepted = c.accepted;
+      pending = c.pending;
+      released = c.qos.released;
+      held = c.qos.held;
+      last_drawn = c.last_drawn;
+      ping = c.ping;
+      last_sent = c.last_sent;
+      routing = c.subscriptions;
+      terminated = c.terminated;
+    } };
+
+    ghost invariant = { λ c. (length c.takes.items ≡ c.setup.tasks) × (length c.left.items ≡ c.setup.tasks) × (c.breaks ≤ c.setup.reopen + 2) × (c.accepted ≤ 2) × IsTied c.pending c.qos
+        × IsBounded ACKS ROUTES c.subscriptions };
+}
+
+impl<const ACKS: usize, const IN: usize, const ROUTES: usize> Core<ACKS, IN, ROUTES> {
+    /// The agent before its first entry. At most ACKS commands can be open, publishes at QoS 0 apart; IN
+    /// identifiers of received QoS 2 publishes can be held; and there can be ROUTES pairs of a task and a
+    /// filter. Where memory runs out the setup comes back.
+    pub fn new(alloc: Global, setup: Setup) -> Result<Self, (Setup, AllocError)>
+        requires sizes { (0 < ACKS) × (ACKS ≤ 1024) × (0 < IN) × (IN ≤ 1024) × (0 < ROUTES) × (ROUTES ≤ 1024) }
+        requires tasks { (0 < setup.tasks) × (setup.tasks ≤ 8) }
+        ensures setup { IfOk result (λ core. core.setup ≡ setup) }
+        ensures begins { IfOk result (λ core. core ≡ beginning setup (record { acks = ACKS; inbound = IN; routes = ROUTES })) }
+        ensures err { IfErr result (λ e. e.0 ≡ setup) }
+    {
+        let tasks = setup.tasks as usize;
+        match records(alloc, tasks) {
+            Ok((takes, left, pending, qos, subscriptions)) => Ok(Core {
+                alloc,
+                setup,
+                phase: Phase::Down,
+                last_time: 0,
+                just_sent: false,
+                takes,
+                left,
+                breaks: 0,
+                accepted: 0,
+                pending,
+                qos,
+                subscriptions,
+                last_drawn: 0,
+                ping: None,
+                last_sent: None,
+                terminated: false,
+            }),
+            Err(e) => Err((setup, e)),
+        }
+    }
+
+    /// Where the agent stands.
+    pub fn phase(&self) -> Phase
+        ensures now { result ≡ self.now.phase }
+    {
+        self.phase
+    }
+
+    /// How many commands are open.
+    pub fn open_count(&self) -> usize
+        ensures now { result ≡ length self.now.pending }
+    {
+        self.pending.len()
+    }
+
+    /// Whether the table has a row for this cause at this time, in milliseconds.
+    #[tactic(auto, using(crate::proofs::Timely::timely, crate::proofs::Timely::late))]
+    pub fn may(&self, at: u64, cause: &Cause) -> bool
+        ensures now { result ≡ is_some (row_now self.now at cause.now) }
+    {
+        self.last_time <= at && self.has_row(at, cause)
+    }
+
+    /// What is due at this time: the first of Finish, Broke KeepAlive, Tick, GaveUp and Broke InFull
+    /// that has a row. It takes no memory.
+    #[tactic(auto, using(crate::proofs::Timely::due_finish, crate::proofs::Timely::due_keep_alive, crate::proofs::Timely::due_tick, crate::proofs::Timely::due_gave_up, crate::proofs::Timely::due_in_full, crate::proofs::Timely::due_none))]
+    pub fn due(&self, now: u64) -> Option<Cause>
+        ensures now { result ≡ due_by self.now.setup self.now.sizes (readings_in self.now) now }
+    {
+        if self.may(now, &Cause::Finish) {
+            Some(Cause::Finish)
+        } else if self.may(
+            now,
+            &Cause::Broke {
+                why: Why::KeepAlive,
+            },
+        ) {
+            Some(Cause::Broke {
+                why: Why::KeepAlive,
+            })
+        } else if self.may(now, &Cause::Tick) {
+            Some(Cause::Tick)
+        } else if self.may(now, &Cause::GaveUp) {
+            Some(Cause::GaveUp)
+        } else if self.may(now, &Cause::Broke { why: Why::InFull }) {
+            Some(Cause::Broke { why: Why::InFull })
+        } else {
+            None
+        }
+    }
+
+    /// Makes the entry of a cause at a time, in milliseconds. Where memory runs out the cause comes
+    /// back, and nothing has changed.
+    #[tactic(auto, using(crate::proofs::Timely::row_in_time, crate::proofs::Timely::effects_in_time, crate::proofs::Timely::after_in_time))]
+    pub fn step(&mut self, at: u64, cause: Cause) -> Result<Entry, (Cause, AllocError)>
+        requires { is_some (row_now self.old at cause) ≡ true }
+        ensures entry { IfOk result (λ e. (e.at ≡ at) × (e.cause ≡ cause)) }
+        ensures effects { IfOk result (λ e. effects_of (row_now self.old at cause) ≡ Some e.effects) }
+        ensures next { IfOk result (λ e. self.new ≡ after self.old at cause e.effects (phase_by (row_now self.old at cause) self.old.phase)) }
+        ensures err { IfErr result (λ e. (e.0 ≡ cause) × (self.new ≡ self.old)) }
+    {
+        match self.enter(at, &cause) {
+            Ok(effects) => Ok(Entry { at, cause, effects }),
+            Err(e) => Err((cause, e)),
+        }
+    }
+}
+
+/// What `new` takes memory for: the counts of each task, and the empty records.
+fn records<const ACKS: usize, const IN: usize, const ROUTES: usize>(
+    alloc: Global,
+    tasks: usize,
+) -> Result<
+    (
+        Vec<u64>,
+        Vec<bool>,
+        PendingAcks<ACKS>,
+        QosState<ACKS, IN>,
+        Subscriptions<ROUTES>,
+    ),
+    AllocError,
+>
+    requires sizes { (0 < ACKS) × (ACKS ≤ 1024) × (0 < IN) × (IN ≤ 1024) × (0 < ROUTES) × (ROUTES ≤ 1024) }
+    ensures { IfOk result (λ r. (r.0.items ≡ replicate tasks 0) × (r.1.items ≡ replicate tasks false) × (r.2 ≡ []) × (r.3 ≡ stages.nothing) × (r.4 ≡ routes.nothing)) }
+{
+    Ok((
+        vec![in alloc; 0u64; tasks]?,
+        vec![in alloc; false; tasks]?,
+        PendingAcks::new(alloc)?,
+        QosState::new(alloc)?,
+        Subscriptions::new(alloc)?,
+    ))
+}

@@ -1,0 +1,18 @@
+//! The sequential agent: it keeps what the table reads off a journal, and makes each next entry.
+#![tactic(auto)]
+
+mod agent;
+mod awaited;
+mod books;
+mod effects;
+mod identifiers;
+mod laws;
+mod noted;
+mod opened;
+mod routes;
+mod row;
+mod sends;
+
+pub use agent::Core;
+pub use agent_journal::{Phase, Setup};
+pub use laws::readings_are_kept;
