@@ -2,9 +2,9 @@
 //! hand.
 
 use super::*;
-use first_core::{Core, Phase, Setup};
 use agent_journal::{Cause, commands_complete_once, first_example, has_sound_packets};
 use agent_link::{MemSink, MemSource};
+use first_core::{Core, Phase, Setup};
 use list_types::Text;
 use replay_run::{replays_are_histories, replays_are_legal};
 use std::test::Fail;

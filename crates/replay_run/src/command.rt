@@ -14,9 +14,9 @@ use crate::exit::finish;
 use crate::report::report_of;
 use crate::run::Run;
 use crate::words::RunWords;
-use first_core::Core;
 use agent_journal::Script;
 use agent_link::{Page, Sink, Tape};
+use first_core::Core;
 use mqtt_packet::NoMemory;
 use std::alloc::{AllocError, Global};
 

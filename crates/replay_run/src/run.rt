@@ -7,9 +7,9 @@ ghost use Rattle.agent_link.specs.Tape.{unplayed};
 ghost use Rattle.replay_run.specs.Replayed as replayed;
 
 use crate::wire::send_packets;
-use first_core::Core;
 use agent_journal::{Cause, Ending, Journal, Phase, Request, Script, Step};
 use agent_link::{Clock, Fault, Heard, Link, StepClock, Tape, TapeLink};
+use first_core::Core;
 use list_types::Copied;
 use mqtt_packet::{NoMemory, Packet};
 use std::alloc::{AllocError, Global};
