@@ -1,5 +1,5 @@
--- What is kept follows the journal.
-use Rattle.std.proofs.Common.{◌≡◌, ℕ, Bool, true, false, not, Some, is_some, refl, ap, sym, ◌∙◌}
+-- The number of a Take that has a row.
+use Rattle.std.proofs.Common.{◌≡◌, ℕ, Bool, true, false, not, Some, is_some, refl, ap}
 use Rattle.std.specs.Prelude.{◌&&◌, ◌==◌, nat_lt, slice_index_or}
 use Rattle.std.proofs.lemmas.Bool.{eqb-true}
 use Rattle.agent_journal.specs.declared.entry.Cause.{Cause}
@@ -10,13 +10,8 @@ use Rattle.agent_table.specs.Rows.{Row}
 use Rattle.agent_table.specs.Table.{cause_row}
 use Rattle.agent_table.specs.Takes.{take_row, take_in, may_take}
 use Rattle.agent_core.specs.Kept.{Kept, readings_in}
-use Rattle.agent_core.specs.Laws.{ReadingsAreKept}
 use Rattle.agent_core.proofs.Breaks.{some_when}
-use Rattle.agent_core.proofs.Closing.{apart_from}
-use Rattle.agent_core.proofs.Keeping.{keeps_next}
 use Rattle.agent_core.proofs.Noting.{IsNext}
-use Rattle.agent_core.proofs.Ready.{in_range}
-use Rattle.agent_core.proofs.Timely.{same_in_time}
 
 both : (a b : Bool) → (a && b) ≡ true → (a ≡ true) × (b ≡ true)
 both true true e = (refl, refl)
@@ -33,7 +28,7 @@ numbered k task seq request row e =
     let three = both (nat_lt task k.setup.tasks && not (r.left task)) (seq == r.takes task) four.0 in
     eqb-true seq (r.takes task) three.1
 
-next_in : (k : Kept) (at : ℕ) (cause : Cause) (row : Row) → cause_row k.setup k.sizes (readings_in k) at cause ≡ Some row → IsNext cause k.takes
+pub next_in : (k : Kept) (at : ℕ) (cause : Cause) (row : Row) → cause_row k.setup k.sizes (readings_in k) at cause ≡ Some row → IsNext cause k.takes
 next_in k at c.Opened row e = tt
 next_in k at (c.Take task seq request) row e = numbered k task seq request row e
 next_in k at (c.Arrived packet) row e = tt
@@ -41,8 +36,3 @@ next_in k at (c.Broke why) row e = tt
 next_in k at c.Tick row e = tt
 next_in k at c.GaveUp row e = tt
 next_in k at c.Finish row e = tt
-
-pub readings_are_kept : ReadingsAreKept
-readings_are_kept k past at cause found sound legal keeps now is =
-    let has : cause_row k.setup k.sizes (readings_in k) at cause ≡ Some found = sym (same_in_time k.setup k.sizes (readings_in k) at cause (ap is_some now)) ∙ now in
-    keeps_next k past at cause found legal (apart_from k.pending sound.differ) sound.released (in_range k at cause found sound.takes sound.left has) (next_in k at cause found has) has is keeps

@@ -29,7 +29,7 @@ one_more limit n = go (nat_le n limit) refl
         let right : nat_le (n + 1) limit ≡ false = grind (arith, nat_tests) in
         ap (λ m. at_most limit (m + 1)) (most_is limit n false e) ∙ most_is limit (limit + 1) false left ∙ sym (most_is limit (n + 1) false right)
 
-none_most : (limit : ℕ) → 0 ≡ at_most limit 0
+pub none_most : (limit : ℕ) → 0 ≡ at_most limit 0
 none_most limit = let few : nat_le 0 limit ≡ true = grind (arith, nat_tests) in sym (most_is limit 0 true few)
 
 pub breaks_next : (s : Setup) (cause : Cause) (n k : ℕ) → k ≡ at_most (s.reopen + 2) n → breaks_with s cause k ≡ at_most (s.reopen + 2) (breaks_behind cause n)

@@ -334,7 +334,7 @@ pub record IsReady (k : Kept) (cause : Cause) (effects : List Effect) (opened : 
   pub few : (commands : List Pending) (released : List ℕ) (lost : Bool)
       → length (all_ended (books commands released (routing_lost lost (routing_caused cause effects (routing_asked cause effects (as_list opened) k.routing)))) effects).routing.renewals ≤ k.sizes.routes
 
-used_few : (k : Kept) → IsKept k → length (used_in k) < 65535
+pub used_few : (k : Kept) → IsKept k → length (used_in k) < 65535
 used_few k kept =
     let sum = length-append (map (λ command. command.id) k.pending) (map (λ renewal. renewal.id) k.routing.renewals) in
     let one : length (map (λ command. command.id) k.pending) ≡ length k.pending = length-map k.pending (λ command. command.id) in

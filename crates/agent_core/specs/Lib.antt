@@ -7,5 +7,6 @@ pub mod Renewing
 pub mod Kept
 pub mod Completions
 pub mod After
+pub mod Routed
 pub mod Stands
 pub mod Laws

@@ -1,14 +1,16 @@
 -- Which journals the agent stands for: the legal ones of its setup and sizes of which it keeps the readings.
-use Rattle.std.specs.Prelude.{◌≡◌, ℕ, ◌+◌, false, List, slice_index_or}
+use Rattle.std.specs.Prelude.{◌≡◌, ◌≢◌, ℕ, ◌+◌, false, List, slice_index_or}
 use Rattle.agent_journal.specs.declared.entry.Entry.{Entry}
+use Rattle.agent_journal.specs.declared.setup.Phase.TheVariants.{Off}
 use Rattle.agent_journal.specs.Readings.{last_time_of, takes_of, has_left, breaks_of, accepted_of, pending_of}
 use Rattle.agent_table.specs.Deliveries.{released_of, held_of}
-use Rattle.agent_table.specs.Histories.{phase_of}
+use Rattle.agent_table.specs.Histories.{IsLegalPast, phase_of}
 use Rattle.agent_table.specs.Identifiers.{last_drawn_of}
 use Rattle.agent_table.specs.Readings.{sends_newest, at_most}
 use Rattle.agent_table.specs.Sessions.{ping_of, last_sent_of}
 use Rattle.agent_table.specs.Terminations.{terminated_of}
 use Rattle.agent_core.specs.Kept.{Kept}
+use Rattle.agent_core.specs.Routed.{RoutesStand}
 
 -- all but the routes
 pub record Keeps (k : Kept) (past : List Entry) : Type 0 where
@@ -26,3 +28,9 @@ pub record Keeps (k : Kept) (past : List Entry) : Type 0 where
   pub ping : k.ping ≡ ping_of past
   pub last_sent : k.last_sent ≡ last_sent_of past
   pub terminated : k.terminated ≡ terminated_of past
+
+-- The journal is legal, and all of it is kept. Once the agent has ended no row reads the routes.
+pub record StandsFor (k : Kept) (past : List Entry) : Type 0 where
+  pub legal : IsLegalPast k.setup k.sizes past
+  pub keeps : Keeps k past
+  pub routes : phase_of k.setup k.sizes past ≢ Off → RoutesStand k.setup past k.routing

@@ -15,4 +15,7 @@ mod sends;
 
 pub use agent::Core;
 pub use agent_journal::{Phase, Setup};
-pub use laws::readings_are_kept;
+pub use laws::{rows_are_same, stands_at_first, stands_behind};
+
+#[cfg(test)]
+mod tests;
