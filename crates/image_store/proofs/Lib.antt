@@ -1,0 +1,4 @@
+mod Ranges
+mod Pieces
+mod Standing
+mod Putting
