@@ -1,5 +1,5 @@
 -- What is kept stands for a journal: at first, and behind each entry.
-use Rattle.std.proofs.Common.{◌≡◌, ◌≢◌, ◌<◌, ℕ, true, false, List, ◌∷◌, ◌++◌, length, replicate, Option, Some, None, is_some, ◌+◌, inl, inr, refl, ap, sym, ◌∙◌, subst, arith}
+use Rattle.std.proofs.Common.{◌≡◌, ◌≢◌, ◌<◌, ℕ, Bool, true, false, List, [], ◌∷◌, ◌++◌, length, replicate, Option, Some, None, is_some, ◌+◌, inl, inr, refl, ap, sym, ◌∙◌, subst, arith}
 use Rattle.std.specs.Prelude.{slice_index_or, get_or}
 use Rattle.std.specs.List.{list_any}
 use Rattle.std.proofs.lemmas.Bool.{eq-eqb, cases_lt}
@@ -14,14 +14,18 @@ use Rattle.agent_journal.specs.declared.entry.Entry.{Entry}
 use Rattle.agent_journal.specs.declared.request.Request.{Request}
 use Rattle.agent_journal.specs.declared.setup.Phase.{Phase}
 use Rattle.agent_journal.specs.declared.setup.Phase.TheVariants.{Down, Opening, Up, Spilled, Off}
-use Rattle.agent_journal.specs.Readings.{Pending, opens, opened_by, sent_id, accepted_of}
-use Rattle.agent_table.specs.Histories.{IsLegalPast, phase_of, readings, row, effects_of}
+use Rattle.agent_journal.specs.declared.setup.Setup.{Setup}
+use Rattle.agent_journal.specs.Readings.{Pending, opens, opened_by, sent_id, accepted_of, pending_of}
+use Rattle.agent_table.specs.Histories.{IsLegalPast, phase_of, phase_by, readings, row, effects_of, due_by}
 use Rattle.agent_table.specs.Readings.{Readings, unless_off}
 use Rattle.agent_table.specs.Routes.{while_opening, renewals_of, routes_of, renewable_of, unsure_of}
+use Rattle.agent_table.specs.Rows.{Row}
+use Rattle.agent_table.specs.Sizes.{Sizes}
 use Rattle.agent_table.specs.Table.{row_of, cause_row}
 use Rattle.pending_acks.specs.Commands.{Differ, has_id}
 use Rattle.subscriptions.specs.Routing.{routes, renewable}
-use Rattle.agent_core.specs.Kept.{Kept, readings_in}
+use Rattle.agent_core.specs.After.{after}
+use Rattle.agent_core.specs.Kept.{Kept, readings_in, row_now, beginning}
 use Rattle.agent_core.specs.Laws.{IsSound, StandsAtFirst, RowsAreSame, StandsBehind}
 use Rattle.agent_core.specs.Renewing.{as_list}
 use Rattle.agent_core.specs.Stands.{StandsFor}
@@ -160,3 +164,36 @@ stands_behind k past at cause found sound stands now =
       keeps = keeps_next k past at cause found stands.legal (apart_from k.pending sound.differ) sound.released range (next_in k at cause found has) has is stands.keeps;
       routes = stands_on k.setup k.sizes past entry k legal refl stands.keeps.pending differ lost stands.routes;
     }
+
+-- ---- What the calls answer
+
+abbrev or_nil : Option (List Effect) → List Effect
+or_nil None = []
+or_nil (Some effects) = effects
+
+pub stands_new : (s : Setup) (l : Sizes) (k : Kept) → k ≡ beginning s l → StandsFor k []
+stands_new s l k e = subst (λ (other : Kept). StandsFor other []) (sym e) (stands_at_first s l)
+
+pub phase_past : (k : Kept) (phase : Phase) → phase ≡ k.phase → (past : List Entry) → StandsFor k past → phase ≡ phase_of k.setup k.sizes past
+phase_past k phase e past stands = e ∙ stands.keeps.phase
+
+pub count_past : (k : Kept) (count : ℕ) → count ≡ length k.pending → (past : List Entry) → StandsFor k past → count ≡ length (pending_of past)
+count_past k count e past stands = e ∙ ap length stands.keeps.pending
+
+pub may_past : (k : Kept) (at : ℕ) (cause : Cause) (may : Bool) → may ≡ is_some (row_now k at cause) → (past : List Entry) → StandsFor k past → may ≡ is_some (row k.setup k.sizes past at cause)
+may_past k at cause may e past stands = e ∙ ap is_some (rows_are_same k past at cause stands)
+
+pub due_past : (k : Kept) (now : ℕ) (cause : Option Cause) → cause ≡ due_by k.setup k.sizes (readings_in k) now → (past : List Entry) → StandsFor k past → cause ≡ due_by k.setup k.sizes (readings k.setup k.sizes past) now
+due_past k now cause e past stands = e ∙ ap (λ (r : Readings). due_by k.setup k.sizes r now) (readings_same k past stands)
+
+pub step_past : (k next : Kept) (at : ℕ) (cause : Cause) (effects : List Effect) → IsSound k → effects_of (row_now k at cause) ≡ Some effects → next ≡ after k at cause effects (phase_by (row_now k at cause) k.phase)
+    → (past : List Entry) → StandsFor k past → StandsFor next (record { at = at; cause = cause; effects = effects } ∷ past)
+step_past k next at cause effects sound e is past stands = go (row_now k at cause) refl
+  where
+    go : (found : Option Row) → row_now k at cause ≡ found → StandsFor next (record { at = at; cause = cause; effects = effects } ∷ past)
+    go None same = absurd (cc (sym e ∙ ap effects_of same))
+    go (Some found) same =
+        let its : effects ≡ found.effects = ap (λ (es : Option (List Effect)). or_nil es) (sym e ∙ ap effects_of same) in
+        let phase : phase_by (row_now k at cause) k.phase ≡ found.phase = ap (λ (r : Option Row). phase_by r k.phase) same in
+        subst (λ (other : Kept). StandsFor other (record { at = at; cause = cause; effects = effects } ∷ past)) (sym (is ∙ ap (λ (p : Phase). after k at cause effects p) phase))
+        (subst (λ (es : List Effect). StandsFor (after k at cause es found.phase) (record { at = at; cause = cause; effects = es } ∷ past)) (sym its) (stands_behind k past at cause found sound stands same))

@@ -1,11 +1,14 @@
 //! What the agent keeps, and its steps.
 
-ghost use Rattle.std.specs.Prelude.{◌≡◌, ◌<◌, ◌≤◌, ◌+◌, [], true, length, Some, is_some, false, replicate, IfOk, IfErr};
+ghost use Rattle.std.specs.Prelude.{◌≡◌, ◌<◌, ◌≤◌, ◌+◌, [], ◌∷◌, List, true, length, Some, is_some, false, replicate, IfOk, IfErr};
 ghost use Rattle.qos_state.specs.Deliveries as stages;
 ghost use Rattle.subscriptions.specs.Routing as routes;
-ghost use Rattle.agent_table.specs.Histories.{effects_of, phase_by, due_by};
+ghost use Rattle.agent_journal.specs.declared.entry.Entry.{Entry};
+ghost use Rattle.agent_journal.specs.Readings.{pending_of};
+ghost use Rattle.agent_table.specs.Histories.{effects_of, phase_by, due_by, phase_of, row, readings};
 ghost use Rattle.agent_core.specs.After.{after};
 ghost use Rattle.agent_core.specs.Kept.{readings_in, row_now, beginning};
+ghost use Rattle.agent_core.specs.Stands.{StandsFor};
 
 mod acknowledged;
 mod arrived;
@@ -85,6 +88,7 @@ impl<const ACKS: usize, const IN: usize, const ROUTES: usize> Core<ACKS, IN, ROU
         requires sizes { (0 < ACKS) × (ACKS ≤ 1024) × (0 < IN) × (IN ≤ 1024) × (0 < ROUTES) × (ROUTES ≤ 1024) }
         requires tasks { (0 < setup.tasks) × (setup.tasks ≤ 8) }
         ensures setup { IfOk result (λ core. core.setup ≡ setup) }
+        ensures stands { IfOk result (λ core. StandsFor core []) }
         ensures begins { IfOk result (λ core. core ≡ beginning setup (record { acks = ACKS; inbound = IN; routes = ROUTES })) }
         ensures err { IfErr result (λ e. e.0 ≡ setup) }
     {
@@ -113,32 +117,38 @@ impl<const ACKS: usize, const IN: usize, const ROUTES: usize> Core<ACKS, IN, ROU
     }
 
     /// Where the agent stands.
+    #[tactic(auto, using(crate::proofs::Standing::phase_past))]
     pub fn phase(&self) -> Phase
         ensures now { result ≡ self.now.phase }
+        ensures past { (past : List Entry) → StandsFor self.now past → result ≡ phase_of self.now.setup self.now.sizes past }
     {
         self.phase
     }
 
     /// How many commands are open.
+    #[tactic(auto, using(crate::proofs::Standing::count_past))]
     pub fn open_count(&self) -> usize
         ensures now { result ≡ length self.now.pending }
+        ensures past { (past : List Entry) → StandsFor self.now past → result ≡ length (pending_of past) }
     {
         self.pending.len()
     }
 
     /// Whether the table has a row for this cause at this time, in milliseconds.
-    #[tactic(auto, using(crate::proofs::Timely::timely, crate::proofs::Timely::late))]
+    #[tactic(auto, using(crate::proofs::Timely::timely, crate::proofs::Timely::late, crate::proofs::Standing::may_past))]
     pub fn may(&self, at: u64, cause: &Cause) -> bool
         ensures now { result ≡ is_some (row_now self.now at cause.now) }
+        ensures past { (past : List Entry) → StandsFor self.now past → result ≡ is_some (row self.now.setup self.now.sizes past at cause.now) }
     {
         self.last_time <= at && self.has_row(at, cause)
     }
 
     /// What is due at this time: the first of Finish, Broke KeepAlive, Tick, GaveUp and Broke InFull
     /// that has a row. It takes no memory.
-    #[tactic(auto, using(crate::proofs::Timely::due_finish, crate::proofs::Timely::due_keep_alive, crate::proofs::Timely::due_tick, crate::proofs::Timely::due_gave_up, crate::proofs::Timely::due_in_full, crate::proofs::Timely::due_none))]
+    #[tactic(auto, using(crate::proofs::Timely::due_finish, crate::proofs::Timely::due_keep_alive, crate::proofs::Timely::due_tick, crate::proofs::Timely::due_gave_up, crate::proofs::Timely::due_in_full, crate::proofs::Timely::due_none, crate::proofs::Standing::due_past))]
     pub fn due(&self, now: u64) -> Option<Cause>
         ensures now { result ≡ due_by self.now.setup self.now.sizes (readings_in self.now) now }
+        ensures past { (past : List Entry) → StandsFor self.now past → result ≡ due_by self.now.setup self.now.sizes (readings self.now.setup self.now.sizes past) now }
     {
         if self.may(now, &Cause::Finish) {
             Some(Cause::Finish)
@@ -164,12 +174,13 @@ impl<const ACKS: usize, const IN: usize, const ROUTES: usize> Core<ACKS, IN, ROU
 
     /// Makes the entry of a cause at a time, in milliseconds. Where memory runs out the cause comes
     /// back, and nothing has changed.
-    #[tactic(auto, using(crate::proofs::Timely::row_in_time, crate::proofs::Timely::effects_in_time, crate::proofs::Timely::after_in_time))]
+    #[tactic(auto, using(crate::proofs::Timely::row_in_time, crate::proofs::Timely::effects_in_time, crate::proofs::Timely::after_in_time, crate::proofs::Standing::step_past))]
     pub fn step(&mut self, at: u64, cause: Cause) -> Result<Entry, (Cause, AllocError)>
         requires { is_some (row_now self.old at cause) ≡ true }
         ensures entry { IfOk result (λ e. (e.at ≡ at) × (e.cause ≡ cause)) }
         ensures effects { IfOk result (λ e. effects_of (row_now self.old at cause) ≡ Some e.effects) }
         ensures next { IfOk result (λ e. self.new ≡ after self.old at cause e.effects (phase_by (row_now self.old at cause) self.old.phase)) }
+        ensures stands { IfOk result (λ e. (past : List Entry) → StandsFor self.old past → StandsFor self.new (e ∷ past)) }
         ensures err { IfErr result (λ e. (e.0 ≡ cause) × (self.new ≡ self.old)) }
     {
         match self.enter(at, &cause) {

@@ -1,12 +1,13 @@
 //! How an entry is made: the row's effects first, which take memory, and then all that is kept.
 
-ghost use Rattle.std.specs.Prelude.{◌≡◌, ◌≤◌, [], true, false, Some, is_some, length, IfOk, OnErr};
+ghost use Rattle.std.specs.Prelude.{◌≡◌, ◌≤◌, [], true, false, Some, is_some, length, IfOk, OnErr, OnOk};
 ghost use Rattle.agent_journal.specs.Readings.{opens};
 ghost use Rattle.agent_table.specs.Histories.{effects_of, phase_by};
 ghost use Rattle.agent_table.specs.Sessions as sessions;
 ghost use Rattle.agent_table.specs.Table.{cause_row};
 ghost use Rattle.agent_core.specs.After.{after};
 ghost use Rattle.agent_core.specs.Kept.{readings_in};
+ghost use Rattle.agent_core.specs.Laws.{IsSound};
 ghost use Rattle.agent_core.specs.Renewing.{as_list};
 
 use super::Core;
@@ -29,6 +30,7 @@ impl<const ACKS: usize, const IN: usize, const ROUTES: usize> Core<ACKS, IN, ROU
         requires { is_some (cause_row self.old.setup self.old.sizes (readings_in self.old) at cause.now) ≡ true }
         ensures effects { IfOk result (λ effects. effects_of (cause_row self.old.setup self.old.sizes (readings_in self.old) at cause.now) ≡ Some effects) }
         ensures next { IfOk result (λ effects. self.new ≡ after self.old at cause.now effects (phase_by (cause_row self.old.setup self.old.sizes (readings_in self.old) at cause.now) self.old.phase)) }
+        ensures sound { OnOk result (IsSound self.old) }
         ensures same { OnErr result (self.new ≡ self.old) }
     {
         // No more than ACKS commands are open, and no more than ROUTES filters can be renewed.
