@@ -1,4 +1,4 @@
-//! The sequential agent: it keeps what the table reads off a journal, and makes each next entry.
+//! The sequential agent by the whole table: it keeps what the table reads off a journal, and makes each next entry.
 #![tactic(auto)]
 
 mod agent;

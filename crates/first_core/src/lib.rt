@@ -1,4 +1,4 @@
-//! The sequential agent: it keeps what the table reads off a journal, and makes each next entry.
+//! The core of the replay as it runs today: the sequential agent by the smaller table of `agent_journal`.
 #![tactic(auto)]
 
 mod agent;
