@@ -68,6 +68,7 @@ impl Splitter {
     #[tactic(auto, using(crate::proofs::Stands::feed_on))]
     pub fn feed(&mut self, piece: &[u8]) -> Result<(), AllocError>
         ensures stands { OnOk result ((fed : List ℕ) (handed : List Packet) → StandsFor self.old fed handed → StandsFor self.new (fed ++ piece.now) handed) }
+        ensures exact { OnOk result (self.new ≡ fed_to self.old piece.now) }
         ensures ended { IfSome self.old.verdict (λ _. IsOk result × (self.new ≡ self.old)) }
         ensures err { OnErr result (self.new ≡ self.old) }
     {
@@ -89,6 +90,7 @@ impl Splitter {
     /// nothing has changed.
     #[tactic(auto, using(crate::proofs::Stands::stands_after, crate::proofs::Stands::kept_after, crate::proofs::Stands::short_after))]
     pub fn next(&mut self) -> Result<Next, AllocError>
+        ensures exact { IfOk result (λ next. (next, self.new) ≡ next_of self.old) }
         ensures tells { IfOk result (λ next. (fed : List ℕ) (handed : List Packet) → StandsFor self.old fed handed → Tells fed handed next) }
         ensures stands { IfOk result (λ next. (fed : List ℕ) (handed : List Packet) → StandsFor self.old fed handed → StandsFor self.new fed (handed_with handed next)) }
         ensures kept { IfOk result (λ next. IsKept next self.new) }
