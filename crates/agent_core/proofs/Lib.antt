@@ -45,4 +45,4 @@ mod RoutedQualifies
 mod RoutedQualifiedNext
 mod RoutedRenewable
 mod RoutedEnded
-mod Standing
+pub mod Standing

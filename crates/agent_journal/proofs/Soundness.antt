@@ -33,7 +33,7 @@ both true true e = (refl, refl)
 both true false e = absurd (cc e)
 both false b e = absurd (cc e)
 
-joined : (a b : Bool) → a ≡ true → b ≡ true → (a && b) ≡ true
+pub joined : (a b : Bool) → a ≡ true → b ≡ true → (a && b) ≡ true
 joined a b x y = rw (x, y) refl
 
 flag : (b : Bool) → (b ≡ true → ⊥) → b ≡ false
@@ -47,14 +47,14 @@ short_groups (suc k) n =
     let rest = short_groups k (n / 128) in
     elim (cases_Bool (nat_lt n 128)) [ inl small ↦ rw small (omega arith) | inr large ↦ rw large (omega arith) ]
 
-fits : (packet : Packet) → has_fields packet ≡ true → length (body packet) ≤ 200000 → is_sound packet ≡ true
+pub fits : (packet : Packet) → has_fields packet ≡ true → length (body packet) ≤ 200000 → is_sound packet ≡ true
 fits packet fields small =
     let head = short_groups 4 (length (body packet)) in
     joined (has_fields packet) (nat_le (length (spelling packet)) 262144) fields
     (le-leb (length (spelling packet)) 262144 (omega (arith, length-append (groups 4 (length (body packet))) (body packet))))
 
 -- no byte is 0 where each passes a test that 0 doesn't
-no_zero : (test : ℕ → Bool) → (test 0 ≡ false) → (bytes : List ℕ) → list_all test bytes ≡ true → list_any (λ b. b == 0) bytes ≡ false
+pub no_zero : (test : ℕ → Bool) → (test 0 ≡ false) → (bytes : List ℕ) → list_all test bytes ≡ true → list_any (λ b. b == 0) bytes ≡ false
 no_zero test fails [] e = refl
 no_zero test fails (b ∷ bytes) e =
     let parts = both (test b) (list_all test bytes) e in
@@ -66,10 +66,10 @@ in_ascii [] e i = omega arith
 in_ascii (b ∷ bytes) e zero = let parts = both (is_printed b) (list_all is_printed bytes) e in let high = leb-true b 126 (both (nat_le 33 b) (nat_le b 126) parts.0).1 in omega arith
 in_ascii (b ∷ bytes) e (suc i) = in_ascii bytes (both (is_printed b) (list_all is_printed bytes) e).1 i
 
-string_of : (bytes : List ℕ) → length bytes < 65536 → is_utf8 bytes ≡ true → list_any (λ b. b == 0) bytes ≡ false → is_string bytes ≡ true
+pub string_of : (bytes : List ℕ) → length bytes < 65536 → is_utf8 bytes ≡ true → list_any (λ b. b == 0) bytes ≡ false → is_string bytes ≡ true
 string_of bytes short text none = joined (nat_lt (length bytes) 65536 && is_utf8 bytes) (not (list_any (λ b. b == 0) bytes)) (joined (nat_lt (length bytes) 65536) (is_utf8 bytes) (lt-ltb (length bytes) 65536 short) text) (ap not none)
 
-connect_sound : (s : Setup) (clean : Bool) → is_client s.client ≡ true → is_sound (connect s clean) ≡ true
+pub connect_sound : (s : Setup) (clean : Bool) → is_client s.client ≡ true → is_sound (connect s clean) ≡ true
 unfolding is_client
 connect_sound s clean client =
     let front = both (nat_lt 0 (length s.client) && nat_le (length s.client) 128) (list_all is_printed s.client) client in

@@ -8,3 +8,6 @@ pub mod Ended
 pub mod Earned
 pub mod Received
 pub mod Fresh
+pub mod SoundPackets
+pub mod SoundRows
+pub mod SoundPasts

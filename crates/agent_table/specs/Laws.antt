@@ -14,6 +14,8 @@ use Rattle.agent_journal.specs.declared.effect.Effect.{Effect}
 use Rattle.agent_journal.specs.declared.effect.Effect.TheVariants as f
 use Rattle.agent_journal.specs.declared.entry.Entry.{Entry}
 use Rattle.agent_journal.specs.declared.setup.Setup.{Setup}
+use Rattle.agent_journal.specs.Parts.{IsSoundEntry}
+use Rattle.agent_journal.specs.Setups.{is_client}
 use Rattle.agent_journal.specs.Projections.{commands_of, completions_of, NoneEarly, CompletesOnce}
 use Rattle.agent_journal.specs.Readings.{Pending, pending_of}
 use Rattle.agent_table.specs.Deliveries.{is_among, is_open_publish, is_exactly_once, released_of}
@@ -119,3 +121,7 @@ ReleasedWereReceived = (past : List Entry) (n : ℕ) → is_among (released_of p
 -- A fresh identifier is one of 1 to 65,535, and it isn't in use where not all of them are.
 abbrev pub FreshIsFresh : Type 0
 FreshIsFresh = (last : ℕ) (used : List ℕ) → last ≤ 65535 → length used < 65535 → (0 < fresh last used) × (fresh last used ≤ 65535) × (is_among used (fresh last used) ≡ false)
+
+-- Each packet of a legal journal, sent or arrived, has a spelling, where the client identifier is one.
+abbrev pub PacketsAreSound : Type 0
+PacketsAreSound = (s : Setup) (l : Sizes) (past : List Entry) → is_client s.client ≡ true → IsLegalPast s l past → AllByRecursion IsSoundEntry past

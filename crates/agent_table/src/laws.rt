@@ -79,3 +79,9 @@ pub fn released_were_received()
 pub fn fresh_is_fresh()
     ensures { laws.FreshIsFresh }
 {}
+
+/// In a legal journal each packet, sent or arrived, has a spelling, where the client identifier is one.
+#[tactic(auto, using(crate::proofs::SoundPasts::packets_are_sound))]
+pub fn packets_are_sound()
+    ensures { laws.PacketsAreSound }
+{}
