@@ -1,0 +1,12 @@
+//! Brokers on tape: what each connection of a broker gives and takes, read from a text, and a link that plays it.
+#![tactic(auto)]
+
+mod link;
+mod tape;
+mod played;
+
+pub use link::TapeLink;
+pub use tape::{Item, Tape, TapeFault, read_tape};
+
+#[cfg(test)]
+mod tests;
