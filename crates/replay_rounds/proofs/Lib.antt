@@ -1,0 +1,15 @@
+pub mod Kept
+pub mod Legal
+pub mod Rows
+pub mod Weights
+pub mod Tamed
+pub mod Receives
+pub mod Dues
+pub mod Takes
+pub mod Openings
+pub mod Moments
+pub mod Ends
+pub mod TakeRows
+pub mod Asked
+pub mod AskedAll
+pub mod Stays

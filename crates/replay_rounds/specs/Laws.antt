@@ -1,0 +1,30 @@
+-- Laws of replays, each the contract of a function that does nothing.
+use Rattle.std.specs.Prelude.{◌≡◌, ℕ, true, List, [], ◌∷◌, ◌++◌}
+use Rattle.std.specs.List.{AllByRecursion}
+use Rattle.broker_tape.specs.declared.tape.Item.{Item}
+use Rattle.agent_journal.specs.declared.request.Request.TheVariants as requests
+use Rattle.agent_journal.specs.declared.script.Line.{Line}
+use Rattle.agent_journal.specs.declared.setup.Setup.{Setup}
+use Rattle.agent_journal.specs.Projections.{requests_of}
+use Rattle.agent_journal.specs.Scripts.{asked_in}
+use Rattle.agent_table.specs.Histories.{IsLegalPast}
+use Rattle.agent_table.specs.Sizes.{Sizes}
+use Rattle.replay_rounds.specs.Asked.{IsValidLine}
+use Rattle.replay_rounds.specs.World.{World}
+use Rattle.replay_rounds.specs.Rounds.{after, begun, has_ended}
+use Rattle.replay_rounds.specs.Bound.{finished}
+
+-- Every round adds what the table gives: a world that begins with a legal past goes on with legal ones.
+abbrev pub ReplaysAreLegal : Type 0
+ReplaysAreLegal = (rounds : ℕ) (w : World) → IsLegalPast w.setup w.sizes w.past → IsLegalPast (after rounds w).setup (after rounds w).sizes (after rounds w).past
+
+-- A replay of one task goes through its script to its end, whatever its tape is.
+abbrev pub ReplaysEnd : Type 0
+ReplaysEnd =
+    (setup : Setup) (sizes : Sizes) (tick : ℕ) (lines : List Line) (items : List Item) → setup.tasks ≡ 1 → has_ended (finished (begun setup sizes tick lines items)) ≡ true
+
+-- It takes what the lines ask, in their order, and then Leave.
+abbrev pub ReplaysTakeAll : Type 0
+ReplaysTakeAll =
+    (setup : Setup) (sizes : Sizes) (tick : ℕ) (lines : List Line) (items : List Item) → setup.tasks ≡ 1 → AllByRecursion IsValidLine lines
+    → requests_of 0 (finished (begun setup sizes tick lines items)).past ≡ asked_in 0 lines ++ requests.Leave ∷ []
