@@ -1,3 +1,2 @@
 pub mod FewLines
-pub mod Digits
 pub mod ScriptLoops

@@ -9,7 +9,7 @@ use Rattle.agent_journal.specs.declared.request.Request.TheVariants as requests
 use Rattle.agent_journal.specs.declared.script.Line.{Line}
 use Rattle.agent_journal.specs.declared.script.Step.{Step}
 use Rattle.agent_journal.specs.declared.script.Step.TheVariants as steps
-use Rattle.agent_script.specs.Numbers.{number_within}
+use Rattle.plain_numbers.specs.Numbers.{number_in}
 use Rattle.agent_script.specs.Requests.{publish_of, subscribe_of, unsubscribe_of}
 
 abbrev pub does : Option Request → Option Step
@@ -82,7 +82,7 @@ jobs_of line = do
 unfoldable pub listen_of : List ℕ → Option Step
 listen_of line = do
   word ← last_at line
-  count ← number_within 1000000 word
+  count ← number_in 1 1000000 word
   Some (steps.Listen count)
 
 -- a line of one word

@@ -1,7 +1,6 @@
 //! Scripts: what the tasks of a run ask, read from their text.
 #![tactic(auto)]
 
-mod numbers;
 mod requests;
 mod script;
 mod steps;

@@ -5,10 +5,10 @@ ghost use Rattle.std.specs.Option.{option_map};
 ghost use Rattle.plain_text.specs.Reading.{Gives};
 ghost use Rattle.agent_script.specs.Steps as steps;
 
-use crate::numbers::number_within;
 use crate::requests::{publish_of, subscribe_of, unsubscribe_of};
 use agent_journal::{Line, Request, Step};
 use list_types::{Blob, Text};
+use plain_numbers::number_in;
 use plain_text::{Refusal, last_at, payload_of, word_at};
 use std::alloc::Global;
 
@@ -16,7 +16,7 @@ use std::alloc::Global;
 const PAYLOAD_LIMIT: usize = 131_072;
 
 /// The greatest number of messages that a line may ask to listen for.
-const LISTEN_LIMIT: u32 = 1_000_000;
+const LISTEN_LIMIT: u64 = 1_000_000;
 
 /// A line of a script of so many tasks.
 #[tactic(auto, unfolding(crate::specs::Steps::line_of))]
@@ -106,8 +106,8 @@ fn listen_of(line: &[u8]) -> Result<Step, Refusal>
     ensures { Gives (λ step. step) result (steps.listen_of line.now) }
 {
     let word = last_at(line).ok_or(Refusal::Bad)?;
-    let count = number_within(LISTEN_LIMIT, word).ok_or(Refusal::Bad)?;
-    Ok(Step::Listen(count))
+    let count = number_in(1, LISTEN_LIMIT, word).ok_or(Refusal::Bad)?;
+    Ok(Step::Listen(count as u32))
 }
 
 /// `shadow` OP NAME PAYLOAD.

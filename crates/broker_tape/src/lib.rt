@@ -2,8 +2,8 @@
 #![tactic(auto)]
 
 mod link;
-mod tape;
 mod played;
+mod tape;
 
 pub use link::TapeLink;
 pub use tape::{Item, Tape, TapeFault, read_tape};

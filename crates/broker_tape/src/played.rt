@@ -70,7 +70,8 @@ pub(crate) fn room_at(items: &[Item], at: usize) -> Option<u64>
 {
     match items.get(at) {
         Some(Item::Room(count)) => Some(*count),
-        Some(Item::Open | Item::Refuse | Item::Hear(_) | Item::Quiet(_) | Item::End | Item::Fail) | None => None,
+        Some(Item::Open | Item::Refuse | Item::Hear(_) | Item::Quiet(_) | Item::End | Item::Fail)
+        | None => None,
     }
 }
 
@@ -89,7 +90,11 @@ pub(crate) fn front_of(bytes: &[u8], played: u64, buf: &mut [u8]) -> usize
 }
 
 /// A connection that has taken and given nothing yet.
-pub(crate) fn begin(alloc: Global, taken: &mut Vec<Blob>, given: &mut Vec<Blob>) -> Result<(), AllocError>
+pub(crate) fn begin(
+    alloc: Global,
+    taken: &mut Vec<Blob>,
+    given: &mut Vec<Blob>,
+) -> Result<(), AllocError>
     ensures taken { OnOk result (taken.new.items ≡ taken.old.items ++ [] ∷ []) }
     ensures given { OnOk result (given.new.items ≡ given.old.items ++ [] ∷ []) }
     ensures err { OnErr result ((taken.new.items ≡ taken.old.items) × (given.new.items ≡ given.old.items)) }

@@ -71,7 +71,10 @@ fn play(alloc: Global, text: &str) -> Result<TapeLink, Fail> {
 #[test]
 fn each_item_is_heard_in_turn(rt: HostRuntime) -> Result<(), Fail> {
     let alloc = rt.alloc();
-    let mut link = play(alloc, "open\nhear 010203\nquiet 2\nhear 04\nend\nopen\nfail\n")?;
+    let mut link = play(
+        alloc,
+        "open\nhear 010203\nquiet 2\nhear 04\nend\nopen\nfail\n",
+    )?;
     let mut buffer = [0; 2];
     assert_eq!(rt; link.recv(buffer.as_mut_slice()), Ok(Heard::End));
     assert_eq!(rt; link.open("broker"), Ok(()));

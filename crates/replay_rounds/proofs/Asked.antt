@@ -212,8 +212,8 @@ line_asked now w line lines request h e is some =
     record {
       asking = record { valid = subst (AllByRecursion IsValidLine) (sym one.2) valid.1; none_behind = λ gone. absurd (cc (sym left ∙ gone)) };
       total =
-        (λ i. one.0 i ++ (asked_in 0 (one.2 i) ++ leave_of (left i))) ∙ append_assoc (requests_of 0 w.past) (request ∷ []) (asked_in 0 lines ++ leave_of false)
-        ∙ sym (λ i. requests_of 0 w.past ++ (asked i ++ leave_of (there i)));
+          (λ i. one.0 i ++ (asked_in 0 (one.2 i) ++ leave_of (left i))) ∙ append_assoc (requests_of 0 w.past) (request ∷ []) (asked_in 0 lines ++ leave_of false)
+          ∙ sym (λ i. requests_of 0 w.past ++ (asked i ++ leave_of (there i)));
     }
 
 -- the Leave, behind the last line
@@ -225,8 +225,8 @@ leave_asked now w e some there =
     record {
       asking = record { valid = subst (AllByRecursion IsValidLine) (sym none) tt; none_behind = λ gone. none };
       total =
-        (λ i. one.0 i ++ (asked_in 0 (none i) ++ leave_of (one.1 i))) ∙ append-nil (requests_of 0 w.past ++ requests.Leave ∷ [])
-        ∙ sym (λ i. requests_of 0 w.past ++ (asked_in 0 (e i) ++ leave_of (there i)));
+          (λ i. one.0 i ++ (asked_in 0 (none i) ++ leave_of (one.1 i))) ∙ append-nil (requests_of 0 w.past ++ requests.Leave ∷ [])
+          ∙ sym (λ i. requests_of 0 w.past ++ (asked_in 0 (e i) ++ leave_of (there i)));
     }
 
 -- ---- Receives

@@ -39,7 +39,7 @@ none_of false false false false false h = (refl, refl, refl)
 pub none_due : (now : ℕ) (w : World) → due_by w.setup w.sizes (readings w.setup w.sizes w.past) now ≡ None → NoneDue now w
 none_due now w e =
     let all =
-        none_of (is_some (row_in w now c.Finish)) (is_some (row_in w now (c.Broke KeepAlive))) (is_some (row_in w now c.Tick)) (is_some (row_in w now c.GaveUp)) (is_some (row_in w now (c.Broke InFull))) e
+    none_of (is_some (row_in w now c.Finish)) (is_some (row_in w now (c.Broke KeepAlive))) (is_some (row_in w now c.Tick)) (is_some (row_in w now c.GaveUp)) (is_some (row_in w now (c.Broke InFull))) e
     in
     record { finish = all.0; gave_up = all.1; in_full = all.2 }
 

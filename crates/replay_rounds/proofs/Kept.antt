@@ -119,7 +119,6 @@ carried now Holds k =
     }
 
 module _ (now : ℕ) (Holds : World → Type 0) (k : IsKept now Holds) where
-
   enters : (w : World) (cause : Cause) → Holds w → Holds (entered w now cause)
   enters w cause h = entered_on now Any Holds (carried now Holds k) w cause tt h
 

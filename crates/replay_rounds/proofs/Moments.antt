@@ -35,7 +35,7 @@ entry_timely now w cause found e h =
       time = omega arith;
       one = h.one;
       fits = subst (λ phase. Within w.setup (breaks_behind cause (breaks_of w.past)) phase) (sym (phase_row now w cause found e))
-      (row_fits w.setup w.sizes (readings w.setup w.sizes w.past) now found (breaks_of w.past) cause refl h.fits (in_time w.setup w.sizes (readings w.setup w.sizes w.past) now cause found e));
+          (row_fits w.setup w.sizes (readings w.setup w.sizes w.past) now found (breaks_of w.past) cause refl h.fits (in_time w.setup w.sizes (readings w.setup w.sizes w.past) now cause found e));
     }
 
 timely_moves : (now : ℕ) (w v : World) → w.setup ≡ v.setup → w.sizes ≡ v.sizes → w.past ≡ v.past → IsTimely now w → IsTimely now v
@@ -44,8 +44,8 @@ timely_moves now w v s l p h =
       time = subst (λ past. last_time_of past ≤ now) p h.time;
       one = ap (λ setup. setup.tasks) (sym s) ∙ h.one;
       fits =
-        subst (λ past. Within v.setup (breaks_of past) (phase_of v.setup v.sizes past)) p
-        (subst (λ sizes. Within v.setup (breaks_of w.past) (phase_of v.setup sizes w.past)) l (subst (λ setup. Within setup (breaks_of w.past) (phase_of setup w.sizes w.past)) s h.fits));
+          subst (λ past. Within v.setup (breaks_of past) (phase_of v.setup v.sizes past)) p
+          (subst (λ sizes. Within v.setup (breaks_of w.past) (phase_of v.setup sizes w.past)) l (subst (λ setup. Within setup (breaks_of w.past) (phase_of setup w.sizes w.past)) s h.fits));
     }
 
 pub timely_kept : (now : ℕ) → IsKept now (IsTimely now)

@@ -34,6 +34,7 @@ may_fail now w h due down =
   where
     within : breaks_of w.past ≤ w.setup.reopen + 1
     within = subst (Within w.setup (breaks_of w.past)) down h.fits
+
     last : w.setup.reopen < breaks_of w.past → nat_eq (at_most (w.setup.reopen + 2) (breaks_of w.past)) (w.setup.reopen + 1) ≡ true
     last more =
         let few = within in

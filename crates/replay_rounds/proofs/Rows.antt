@@ -192,6 +192,7 @@ module _ (s : Setup) (l : Sizes) (r : Readings) (at : ℕ) (found : Row) where
       by : (b : Bool) (breaks : ℕ) → s.reopen < breaks → r.breaks ≡ cond b breaks (s.reopen + 2) → ⊥
       by true breaks more e = cc (sym h ∙ lt-leb r.breaks s.reopen (omega (arith, more, e)))
       by false breaks more e = cc (sym h ∙ lt-leb r.breaks s.reopen (omega (arith, e)))
+
       many : s.reopen < breaks → ⊥
       many more = by (nat_le breaks (s.reopen + 2)) breaks more e
 

@@ -104,7 +104,7 @@ behind_passed w u v h less s c lower =
 pub bound_passed : (w u : World) → Passed w (length w.lines) u → bound u ≤ bound w
 bound_passed w u h =
     let product : (6 + u.setup.reopen) * weights u.items ≡ (6 + w.setup.reopen) * weights w.items =
-        ap (λ setup. (6 + setup.reopen) * weights u.items) h.setup ∙ ap (λ items. (6 + w.setup.reopen) * weights items) h.items
+    ap (λ setup. (6 + setup.reopen) * weights u.items) h.setup ∙ ap (λ items. (6 + w.setup.reopen) * weights items) h.items
     in
     let same = rounds_same w u (length w.lines) h in
     let left : leave_weight (has_left 0 u.past) ≡ leave_weight (has_left 0 w.past) = ap (λ past. leave_weight (has_left 0 past)) h.past in
@@ -136,7 +136,7 @@ module _ (now : ℕ) (w : World) (request : Request) where
   light_up found (inl up) here (inl lands) =
       let v = submits w now request in
       let ping : ping_weight (ping_of v.past) ≤ ping_weight (ping_of w.past) =
-          subst (λ past. ping_weight (ping_of past) ≤ ping_weight (ping_of w.past)) (sym lands.0) (ping_less (sends_ping found.effects) (ping_of w.past) now)
+      subst (λ past. ping_weight (ping_of past) ≤ ping_weight (ping_of w.past)) (sym lands.0) (ping_less (sends_ping found.effects) (ping_of w.past) now)
       in
       let light = up_weighs v (lands.1 ∙ up) in let heavy = up_weighs w here in let same = reopen_same in omega (arith, ping, light, heavy, same)
   light_up found (inl up) here (inr fault) =
@@ -229,6 +229,7 @@ not_left now w h due up none = by (has_left 0 w.past) refl
   where
     all : (tasks : ℕ) → tasks ≡ 1 → has_left 0 w.past ≡ true → all_left tasks (λ t. has_left t w.past) ≡ true
     all tasks one e = ap (λ n. all_left n (λ t. has_left t w.past)) one ∙ rw e refl
+
     by : (b : Bool) → has_left 0 w.past ≡ b → b ≡ false
     by true e = absurd (cc (sym due.finish ∙ finish_there w.setup w.sizes (readings w.setup w.sizes w.past) now h.time up (all w.setup.tasks h.one e) none))
     by false e = refl
@@ -264,8 +265,8 @@ module _ (now : ℕ) (w : World) (h : IsTimely now w) (due : NoneDue now w) (up 
 pub due_moves : (now : ℕ) (w u : World) (most : ℕ) → Passed w most u → NoneDue now w → NoneDue now u
 due_moves now w u most h due =
     let same : (cause : Cause) → row_in w now cause ≡ row_in u now cause =
-        λ cause. sym (ap (λ setup. row_in (record u { setup = setup }) now cause) h.setup ∙ ap (λ sizes. row_in (record u { setup = w.setup; sizes = sizes }) now cause) h.sizes
-        ∙ ap (λ past. row_in (record u { setup = w.setup; sizes = w.sizes; past = past }) now cause) h.past)
+    λ cause. sym (ap (λ setup. row_in (record u { setup = setup }) now cause) h.setup ∙ ap (λ sizes. row_in (record u { setup = w.setup; sizes = sizes }) now cause) h.sizes
+    ∙ ap (λ past. row_in (record u { setup = w.setup; sizes = w.sizes; past = past }) now cause) h.past)
     in
     record {
       finish = sym (ap is_some (same c.Finish)) ∙ due.finish;

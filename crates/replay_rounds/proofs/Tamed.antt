@@ -74,15 +74,15 @@ by_item w u v s c l p less h =
       setup = h.setup ∙ s;
       clock = h.clock ∙ c;
       less =
-        let reopen : v.setup.reopen ≡ w.setup.reopen = ap (λ setup. setup.reopen) (h.setup ∙ s) in
-        let few = most v in
-        let same : length v.lines ≡ length w.lines = ap length (h.lines ∙ l) in
-        let left : leave_weight (has_left 0 u.past) ≡ leave_weight (has_left 0 w.past) = ap (λ past. leave_weight (has_left 0 past)) p in
-        let sum =
-            consumed w.setup.reopen (weights w.items) (weights v.items) (rounds_in w) (rounds_in v) (length w.lines) (length v.lines) (leave_weight (has_left 0 w.past)) (leave_weight (has_left 0 v.past))
-            (omega (arith, less, h.weight)) (omega (arith, few, reopen)) (omega (arith, same)) (omega (arith, left, h.leave))
-        in
-        by_reopen w v reopen sum;
+          let reopen : v.setup.reopen ≡ w.setup.reopen = ap (λ setup. setup.reopen) (h.setup ∙ s) in
+          let few = most v in
+          let same : length v.lines ≡ length w.lines = ap length (h.lines ∙ l) in
+          let left : leave_weight (has_left 0 u.past) ≡ leave_weight (has_left 0 w.past) = ap (λ past. leave_weight (has_left 0 past)) p in
+          let sum =
+          consumed w.setup.reopen (weights w.items) (weights v.items) (rounds_in w) (rounds_in v) (length w.lines) (length v.lines) (leave_weight (has_left 0 w.past)) (leave_weight (has_left 0 v.past))
+          (omega (arith, less, h.weight)) (omega (arith, few, reopen)) (omega (arith, same)) (omega (arith, left, h.leave))
+          in
+          by_reopen w v reopen sum;
     }
   where
     by_reopen : (w v : World) → v.setup.reopen ≡ w.setup.reopen
@@ -97,8 +97,8 @@ by_rest w v s c less h =
       setup = s;
       clock = c;
       less =
-        subst (λ n. (6 + n) * weights v.items + rounds_in v + length v.lines + leave_weight (has_left 0 v.past) < bound w) (sym (ap (λ setup. setup.reopen) s))
-        (lowered w.setup.reopen (weights w.items) (weights v.items) (rounds_in w) (rounds_in v) (length w.lines) (length v.lines) (leave_weight (has_left 0 w.past)) (leave_weight (has_left 0 v.past)) less h);
+          subst (λ n. (6 + n) * weights v.items + rounds_in v + length v.lines + leave_weight (has_left 0 v.past) < bound w) (sym (ap (λ setup. setup.reopen) s))
+          (lowered w.setup.reopen (weights w.items) (weights v.items) (rounds_in w) (rounds_in v) (length w.lines) (length v.lines) (leave_weight (has_left 0 w.past)) (leave_weight (has_left 0 v.past)) less h);
     }
 
 -- the same lines, and less in the phase
