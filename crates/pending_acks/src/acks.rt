@@ -2,32 +2,32 @@
 
 ghost use Rattle.std.specs.Prelude.{◌≡◌, ◌<◌, ◌≤◌, ◌==◌, [], ◌∷◌, ◌++◌, length, filter, find, slice_get, false, not, IfOk};
 ghost use Rattle.std.specs.Bool.{OnFalse};
-ghost use Rattle.std.specs.List.{list_any, position};
+ghost use Rattle.std.specs.List.{list_any};
 ghost use Rattle.std.specs.Option.{option_copied};
 ghost use Rattle.pending_acks.specs.Commands.{Differ, has_id, is_command, others};
 
 use crate::pending::Pending;
+use ordered_cells::KeyedCells;
 use std::alloc::{AllocError, Global};
 use std::marker::Model;
 
 /// At most ACKS open commands, no two of one identifier, in the order in which they were added.
 /// Contracts see the list of them. ACKS is 1 to 1,024. Only `new` takes memory.
+///
+/// They stand in ACKS cells and don't move. An identifier is looked for in one cell, and besides in those
+/// alone whose identifiers aren't at home there (`KeyedCells`); `find_command` goes over all commands.
 #[derive(Debug, Drop)]
 pub struct PendingAcks<const ACKS: usize> {
-    commands: Vec<Pending>,
+    commands: KeyedCells<Pending, ACKS>,
 }
 
 impl<const ACKS: usize> Model for PendingAcks<ACKS> {
-    ghost use Rattle.std.specs.Prelude.{◌≡◌, ◌≤◌, List, length};
-    ghost use Rattle.std.specs.Vec.{vec_capacity};
+    ghost use Rattle.std.specs.Prelude.{List};
     ghost use Rattle.agent_journal.specs.Readings.{Pending as Command};
-    ghost use Rattle.pending_acks.specs.Commands.{Differ};
 
     ghost Value = { List Command };
 
-    ghost view = { λ p. p.commands.items };
-
-    ghost invariant = { λ p. (length p.commands.items ≤ ACKS) × (ACKS ≤ vec_capacity p.commands) × Differ p.commands.items };
+    ghost view = { λ p. p.commands };
 }
 
 impl<const ACKS: usize> PendingAcks<ACKS> {
@@ -37,7 +37,7 @@ impl<const ACKS: usize> PendingAcks<ACKS> {
         ensures { IfOk result (λ commands. commands ≡ []) }
     {
         Ok(PendingAcks {
-            commands: Vec::with_capacity(alloc, ACKS)?,
+            commands: KeyedCells::new(alloc)?,
         })
     }
 
@@ -46,7 +46,7 @@ impl<const ACKS: usize> PendingAcks<ACKS> {
         ensures full { result ≡ (length self.now == ACKS) }
         ensures room { OnFalse result (length self.now < ACKS) }
     {
-        self.commands.len() == ACKS
+        self.commands.is_full()
     }
 
     /// How many commands are there. They are at most ACKS, and no two of them have one identifier.
@@ -70,18 +70,16 @@ impl<const ACKS: usize> PendingAcks<ACKS> {
         requires fresh { list_any (has_id command.id) self.old ≡ false }
         ensures { self.new ≡ self.old ++ command ∷ [] }
     {
-        self.commands.push_reserved(command);
+        self.commands.push(command);
     }
 
     /// Takes the command of an identifier out, and the others keep their order. `None`, and nothing
     /// has changed, where there is no such command.
-    #[tactic(auto, using(crate::proofs::Takes::none_found, crate::proofs::Takes::first_found, crate::proofs::Takes::none_taken, crate::proofs::Takes::one_taken))]
     pub fn take(&mut self, id: u16) -> Option<Pending>
         ensures taken { result ≡ find (has_id id) self.old }
         ensures others { self.new ≡ others id self.old }
     {
-        let place = self.place_of(id)?;
-        Some(self.commands.remove(place))
+        self.commands.take(id)
     }
 
     /// The command at place `k`, counted from 0 in the order in which they were added.
@@ -96,7 +94,7 @@ impl<const ACKS: usize> PendingAcks<ACKS> {
         ensures found { option_copied result ≡ find (has_id id) self.now }
         ensures differ { Differ self.now }
     {
-        self.commands.iter().find(|command| command.id == id)
+        self.commands.find(id)
     }
 
     /// The command that a task submitted with this number.
@@ -104,20 +102,13 @@ impl<const ACKS: usize> PendingAcks<ACKS> {
         ensures { option_copied result ≡ find (is_command task seq) self.now }
     {
         self.commands
-            .iter()
-            .find(|command| command.task == task && command.seq == seq)
+            .find_by(|command| command.task == task && command.seq == seq)
     }
 
     /// Whether there is a command of this identifier.
     pub fn has(&self, id: u16) -> bool
         ensures { result ≡ list_any (has_id id) self.now }
     {
-        self.commands.iter().any(|command| command.id == id)
-    }
-
-    fn place_of(&self, id: u16) -> Option<usize>
-        ensures { result ≡ position (has_id id) self.now }
-    {
-        self.commands.iter().position(|command| command.id == id)
+        self.commands.has(id)
     }
 }

@@ -1,6 +1,7 @@
 //! One open command.
 
 use agent_journal::Request;
+use ordered_cells::Keyed;
 use std::marker::Model;
 
 /// A command that was sent and isn't complete. Contracts see the reading of that name.
@@ -22,4 +23,12 @@ impl Model for Pending {
     ghost Value = { Command };
 
     ghost view = { λ p. record { id = p.id; task = p.task; seq = p.seq; request = p.request } };
+}
+
+impl Keyed for Pending {
+    ghost key_of = { λ command. command.id };
+
+    fn key(&self) -> u16 {
+        self.id
+    }
 }

@@ -3,7 +3,6 @@
 #![tactic(auto)]
 
 mod answers;
-mod identifiers;
 mod stages;
 
 pub use answers::{AckAnswer, AckKind, Received, Stage};

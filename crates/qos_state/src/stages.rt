@@ -5,38 +5,40 @@ ghost use Rattle.mqtt_packet.specs.declared.qos.Qos.TheVariants.{AtMostOnce};
 ghost use Rattle.qos_state.specs.Deliveries as d;
 
 use crate::answers::{AckAnswer, AckKind, Received, Stage};
-use crate::identifiers::{is_among, remove};
 use mqtt_packet::Qos;
+use ordered_cells::KeyedCells;
 use std::alloc::{AllocError, Global};
 use std::marker::Model;
 
 /// Where the publishes stand. Contracts see the identifiers that await PUBACK, PUBREC, PUBCOMP and
 /// PUBREL, as the lists of `Deliveries`. At most ACKS are open and at most IN are held, each 1 to 1,024.
 /// Only `new` takes memory.
+///
+/// An identifier is looked for in one cell of each list, and besides in those alone whose identifiers
+/// aren't at home there (`KeyedCells`).
 #[derive(Debug, Drop)]
 pub struct QosState<const ACKS: usize, const IN: usize> {
-    at_least_once: Vec<u16>,
-    exactly_once: Vec<u16>,
-    released: Vec<u16>,
-    held: Vec<u16>,
+    at_least_once: KeyedCells<u16, ACKS>,
+    exactly_once: KeyedCells<u16, ACKS>,
+    released: KeyedCells<u16, ACKS>,
+    held: KeyedCells<u16, IN>,
 }
 
 impl<const ACKS: usize, const IN: usize> Model for QosState<ACKS, IN> {
-    ghost use Rattle.std.specs.Prelude.{◌≡◌, ◌≤◌, ◌+◌, length};
-    ghost use Rattle.std.specs.Vec.{vec_capacity};
+    ghost use Rattle.std.specs.Prelude.{◌≤◌, ◌+◌, length};
     ghost use Rattle.qos_state.specs.Deliveries.{Deliveries};
+    ghost use Rattle.qos_state.specs.Apart.{AreApart};
 
     ghost Value = { Deliveries };
 
     ghost view = { λ q. record {
-      at_least_once = q.at_least_once.items;
-      exactly_once = q.exactly_once.items;
-      released = q.released.items;
-      held = q.held.items;
+      at_least_once = q.at_least_once;
+      exactly_once = q.exactly_once;
+      released = q.released;
+      held = q.held;
     } };
 
-    ghost invariant = { λ q. (length q.at_least_once.items + length q.exactly_once.items + length q.released.items ≤ ACKS) × (length q.held.items ≤ IN)
-        × (ACKS ≤ vec_capacity q.at_least_once) × (ACKS ≤ vec_capacity q.exactly_once) × (ACKS ≤ vec_capacity q.released) × (IN ≤ vec_capacity q.held) };
+    ghost invariant = { λ q. (length q.at_least_once + length q.exactly_once + length q.released ≤ ACKS) × AreApart q.exactly_once q.released };
 }
 
 impl<const ACKS: usize, const IN: usize> QosState<ACKS, IN> {
@@ -46,10 +48,10 @@ impl<const ACKS: usize, const IN: usize> QosState<ACKS, IN> {
         ensures { IfOk result (λ state. state ≡ d.nothing) }
     {
         Ok(QosState {
-            at_least_once: Vec::with_capacity(alloc, ACKS)?,
-            exactly_once: Vec::with_capacity(alloc, ACKS)?,
-            released: Vec::with_capacity(alloc, ACKS)?,
-            held: Vec::with_capacity(alloc, IN)?,
+            at_least_once: KeyedCells::new(alloc)?,
+            exactly_once: KeyedCells::new(alloc)?,
+            released: KeyedCells::new(alloc)?,
+            held: KeyedCells::new(alloc)?,
         })
     }
 
@@ -76,8 +78,8 @@ impl<const ACKS: usize, const IN: usize> QosState<ACKS, IN> {
     {
         match qos {
             Qos::AtMostOnce => {}
-            Qos::AtLeastOnce => self.at_least_once.push_reserved(id),
-            Qos::ExactlyOnce => self.exactly_once.push_reserved(id),
+            Qos::AtLeastOnce => self.at_least_once.push(id),
+            Qos::ExactlyOnce => self.exactly_once.push(id),
         }
     }
 
@@ -85,11 +87,11 @@ impl<const ACKS: usize, const IN: usize> QosState<ACKS, IN> {
     pub fn stage_of(&self, id: u16) -> Option<Stage>
         ensures { result ≡ d.stage_of self.now id }
     {
-        if is_among(&self.at_least_once, id) {
+        if self.at_least_once.has(id) {
             Some(Stage::Sent1)
-        } else if is_among(&self.exactly_once, id) {
+        } else if self.exactly_once.has(id) {
             Some(Stage::Sent2)
-        } else if is_among(&self.released, id) {
+        } else if self.released.has(id) {
             Some(Stage::Released)
         } else {
             None
@@ -119,9 +121,9 @@ impl<const ACKS: usize, const IN: usize> QosState<ACKS, IN> {
     pub fn drop_id(&mut self, id: u16)
         ensures { self.new ≡ d.freed id self.old }
     {
-        remove(&mut self.at_least_once, id);
-        remove(&mut self.exactly_once, id);
-        remove(&mut self.released, id);
+        self.at_least_once.take(id);
+        self.exactly_once.take(id);
+        self.released.take(id);
     }
 
     /// The released identifier at place `k`, counted from 0 in the order of their first PUBRECs.
@@ -135,7 +137,7 @@ impl<const ACKS: usize, const IN: usize> QosState<ACKS, IN> {
     pub fn is_released(&self, id: u16) -> bool
         ensures { result ≡ d.is_among self.now.released id }
     {
-        is_among(&self.released, id)
+        self.released.has(id)
     }
 
     /// A QoS 2 publish came with this identifier.
@@ -145,7 +147,7 @@ impl<const ACKS: usize, const IN: usize> QosState<ACKS, IN> {
     {
         let answer = self.arrival(id);
         if answer == Received::New {
-            self.held.push_reserved(id);
+            self.held.push(id);
         }
         answer
     }
@@ -154,12 +156,12 @@ impl<const ACKS: usize, const IN: usize> QosState<ACKS, IN> {
     pub fn arrival(&self, id: u16) -> Received
         ensures { result ≡ d.arrival IN self.now id }
     {
-        if is_among(&self.held, id) {
+        if self.held.has(id) {
             Received::Repeat
-        } else if self.held.len() < IN {
-            Received::New
-        } else {
+        } else if self.held.is_full() {
             Received::Full
+        } else {
+            Received::New
         }
     }
 
@@ -167,7 +169,7 @@ impl<const ACKS: usize, const IN: usize> QosState<ACKS, IN> {
     pub fn on_release(&mut self, id: u16)
         ensures { self.new ≡ d.unheld id self.old }
     {
-        remove(&mut self.held, id);
+        self.held.take(id);
     }
 
     /// The session was lost: nothing is held. Open publishes end one by one.
@@ -192,7 +194,7 @@ impl<const ACKS: usize, const IN: usize> QosState<ACKS, IN> {
         requires sent { d.is_among self.old.exactly_once id ≡ true }
         ensures { self.new ≡ d.released_last id self.old }
     {
-        remove(&mut self.exactly_once, id);
-        self.released.push_reserved(id);
+        self.exactly_once.take(id);
+        self.released.push(id);
     }
 }

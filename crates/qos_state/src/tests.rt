@@ -5,6 +5,7 @@ ghost use Rattle.std.specs.Prelude.{◌<◌, ◌≤◌};
 use super::*;
 use mqtt_packet::Qos;
 use std::alloc::{AllocError, Global};
+use std::process::Abort;
 use std::test::Fail;
 
 /// Starts a publish where that can be.
@@ -101,6 +102,61 @@ fn acknowledgements_answer_by_the_stage(rt: HostRuntime) -> Result<(), Fail> {
         assert_eq!(rt; state.stage_of(7), after, "{kind:?} at {before:?}");
         assert_eq!(rt; state.is_empty(), after.is_none());
     }
+    Ok(())
+}
+
+/// Each call, in a state that is new.
+fn each_call<const ACKS: usize, const IN: usize>(rt: &impl Abort, state: &mut QosState<ACKS, IN>) {
+    begin(state, 1, Qos::AtLeastOnce);
+    begin(state, 60_001, Qos::ExactlyOnce);
+    assert_eq!(rt; (state.len(), state.is_empty()), (2, false));
+    assert_eq!(rt;
+        [state.stage_of(1), state.stage_of(60_001), state.stage_of(2)],
+        [Some(Stage::Sent1), Some(Stage::Sent2), None]
+    );
+    assert_eq!(rt; state.on_ack(AckKind::PubRec, 60_001), AckAnswer::Release);
+    assert_eq!(rt;
+        [state.released(0), state.released(1)],
+        [Some(60_001), None]
+    );
+    assert_eq!(rt;
+        [state.is_released(60_001), state.is_released(1)],
+        [true, false]
+    );
+    state.drop_id(1);
+    assert_eq!(rt; (state.stage_of(1), state.len()), (None, 1));
+    assert_eq!(rt;
+        [
+            state.on_publish(5),
+            state.on_publish(6),
+            state.on_publish(5)
+        ],
+        [Received::New, Received::New, Received::Repeat]
+    );
+    assert_eq!(rt; state.arrival(6), Received::Repeat);
+    state.on_release(5);
+    assert_eq!(rt;
+        [state.arrival(5), state.arrival(6)],
+        [Received::New, Received::Repeat]
+    );
+    state.forget_held();
+    assert_eq!(rt; state.arrival(6), Received::New);
+    state.forget();
+    assert!(rt; state.is_empty());
+    assert!(rt; state.stage_of(60_001).is_none());
+}
+
+#[test]
+fn each_call_at_2(rt: HostRuntime) -> Result<(), Fail> {
+    let mut state = QosState::<2, 2>::new(rt.alloc())?;
+    each_call(&rt, &mut state);
+    Ok(())
+}
+
+#[test]
+fn each_call_at_1024(rt: HostRuntime) -> Result<(), Fail> {
+    let mut state = QosState::<1024, 1024>::new(rt.alloc())?;
+    each_call(&rt, &mut state);
     Ok(())
 }
 

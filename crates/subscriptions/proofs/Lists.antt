@@ -1,6 +1,7 @@
 -- Lists that are changed in place, and tests over mapped lists.
 use Rattle.std.proofs.Common.{◌∙◌, ◌≡◌, ◌<◌, ◌+◌, ℕ, zero, suc, Bool, true, false, cond, ◌||◌, List, [], ◌∷◌, ◌++◌, map, take, drop, length, refl, ap, arith, get_or, set, add-one}
-use Rattle.std.specs.List.{list_any, list_all, filter}
+use Rattle.std.specs.Prelude.{Some, None, not, if◌then◌else◌}
+use Rattle.std.specs.List.{list_any, list_all, filter, filter_map}
 use Rattle.subscriptions.proofs.Bools.{left_true, right_true}
 
 -- an element that isn't changed yet
@@ -39,3 +40,19 @@ pub all_at : {X : Type 0} (p : X → Bool) (xs : List X) (i : ℕ) (d : X) → l
 all_at p [] i d all inside = absurd (omega arith)
 all_at p (x ∷ xs) zero d all inside = left_true (p x) (list_all p xs) all
 all_at p (x ∷ xs) (suc i) d all inside = all_at p xs i d (right_true (p x) (list_all p xs) all) (omega arith)
+
+-- ---- Elements that are given to a function which answers some or none
+
+pub some_of_each : {X : Type 0} (f : X → X) (xs : List X) → filter_map (λ x. Some (f x)) xs ≡ map f xs
+some_of_each f [] = refl
+some_of_each f (x ∷ xs) = ap (λ ys. f x ∷ ys) (some_of_each f xs)
+
+-- those of which a test holds are dropped
+pub none_where : {X : Type 0} (p : X → Bool) (xs : List X) → filter_map (λ x. if p x then None else Some x) xs ≡ filter (λ x. not (p x)) xs
+none_where p [] = refl
+none_where p (x ∷ xs) = go (p x) refl (none_where p xs)
+  where
+    go : (b : Bool) → p x ≡ b → filter_map (λ y. if p y then None else Some y) xs ≡ filter (λ y. not (p y)) xs
+        → filter_map (λ y. if p y then None else Some y) (x ∷ xs) ≡ filter (λ y. not (p y)) (x ∷ xs)
+    go true e rest = rw e rest
+    go false e rest = rw e (ap (λ ys. x ∷ ys) rest)

@@ -1,6 +1,6 @@
 -- What a SUBACK says of a filter, as tests over the pairs.
 use Rattle.std.proofs.Common.{sym, ◌∙◌, ◌≡◌, ℕ, Bool, true, false, not, ◌&&◌, ◌||◌, nat_lt, nat_le, List, [], ◌∷◌, ◌++◌, reverse, map, Option, Some, None, refl, ap, arith}
-use Rattle.std.specs.List.{list_any, find, filter, zip, flat_map}
+use Rattle.std.specs.List.{list_any, find, filter, filter_map, zip, flat_map}
 use Rattle.std.specs.Option.{option_map, option_or, unwrap_or}
 use Rattle.std.specs.Str.{bytes_eq}
 use Rattle.std.proofs.lemmas.Bool.Decides.{nat_tests}
@@ -11,7 +11,7 @@ use Rattle.mqtt_packet.specs.declared.will.Ask.{Ask}
 use Rattle.agent_table.specs.Filters.{is_one_of}
 use Rattle.agent_table.specs.Routes.{coded, granted_in, refused_in, last_asked, or_earlier}
 use Rattle.subscriptions.specs.Routing.{Granted, renewed_as, settled, renewal_coded}
-use Rattle.subscriptions.specs.Parts.{confirmed}
+use Rattle.subscriptions.specs.Parts.{confirmed, left_of}
 
 pub grants_are : (asks : List Ask) (codes : List ℕ) (topics : List ℕ) → list_any (λ pair. nat_lt pair.1 128 && bytes_eq pair.0.filter topics) (zip asks codes) ≡ is_one_of (granted_in (coded asks codes)) topics
 grants_are [] codes topics = refl
@@ -74,6 +74,16 @@ renewed_all asks codes (g ∷ gs) = go (is_one_of (refused_in (coded asks codes)
     go : (b : Bool) → is_one_of (refused_in (coded asks codes)) g.topics ≡ b → (t : Bool) → is_one_of (granted_in (coded asks codes)) g.topics ≡ t
         → map (confirmed (granted_in (coded asks codes))) (filter (λ other. not (is_one_of (refused_in (coded asks codes)) other.topics)) gs) ≡ flat_map (renewal_coded asks codes) gs
         → map (confirmed (granted_in (coded asks codes))) (filter (λ other. not (is_one_of (refused_in (coded asks codes)) other.topics)) (g ∷ gs)) ≡ flat_map (renewal_coded asks codes) (g ∷ gs)
+    go true e t f rest = rw e rest
+    go false e true f rest = rw (e, f) (ap (λ others. record g { sure = true } ∷ others) rest)
+    go false e false f rest = rw (e, f) (ap (λ others. g ∷ others) rest)
+
+pub left_of_all : (asks : List Ask) (codes : List ℕ) (gs : List Granted) → filter_map (left_of asks codes) gs ≡ flat_map (renewal_coded asks codes) gs
+left_of_all asks codes [] = refl
+left_of_all asks codes (g ∷ gs) = go (is_one_of (refused_in (coded asks codes)) g.topics) refl (is_one_of (granted_in (coded asks codes)) g.topics) refl (left_of_all asks codes gs)
+  where
+    go : (b : Bool) → is_one_of (refused_in (coded asks codes)) g.topics ≡ b → (t : Bool) → is_one_of (granted_in (coded asks codes)) g.topics ≡ t
+        → filter_map (left_of asks codes) gs ≡ flat_map (renewal_coded asks codes) gs → filter_map (left_of asks codes) (g ∷ gs) ≡ flat_map (renewal_coded asks codes) (g ∷ gs)
     go true e t f rest = rw e rest
     go false e true f rest = rw (e, f) (ap (λ others. record g { sure = true } ∷ others) rest)
     go false e false f rest = rw (e, f) (ap (λ others. g ∷ others) rest)

@@ -3,19 +3,19 @@
 ghost use Rattle.std.specs.Prelude.{◌≡◌, ◌≤◌, ◌&&◌, ◌||◌, ◌==◌, not, true, map, length};
 ghost use Rattle.std.specs.List.{list_any, list_all, filter, flat_map};
 ghost use Rattle.std.specs.Str.{bytes_eq};
-ghost use Rattle.std.specs.Vec.{vec_capacity};
 ghost use Rattle.agent_table.specs.Filters.{is_one_of};
-ghost use Rattle.agent_table.specs.Routes.{coded, granted_in, refused_in};
+ghost use Rattle.agent_table.specs.Routes.{coded, granted_in};
 ghost use Rattle.topic_filter.specs.Fitting.{fits};
 ghost use Rattle.topic_filter.specs.Texts.{is_filter};
 ghost use Rattle.subscriptions.specs.Routing.{renewed_as, unsure_now, is_any_of, renewal_coded};
-ghost use Rattle.subscriptions.specs.Parts.{confirmed};
+ghost use Rattle.subscriptions.specs.Parts.{confirmed, left_of};
 ghost use Rattle.subscriptions.specs.Nearest.{IsLeast, nearest};
 
 use crate::codes::{grants, last_asked, refuses};
 use crate::nearer::is_nearer;
 use list_types::Text;
 use mqtt_packet::{Ask, Qos};
+use ordered_cells::OrderedCells;
 use std::marker::Model;
 use topic_filter::matches;
 
@@ -42,7 +42,7 @@ impl Model for Granted {
 impl Granted {
     /// A SUBACK came: where it grants the filter, the route is sure, and is renewed as was asked.
     #[tactic(auto, using(crate::proofs::Subacks::grants_are))]
-    pub fn renew(&mut self, asks: &[Ask], codes: &[u8])
+    fn renew(&mut self, asks: &[Ask], codes: &[u8])
         ensures { self.new ≡ renewed_as (granted_in (coded asks.now codes.now)) asks.now self.old }
     {
         if grants(asks, codes, &self.filter) {
@@ -53,12 +53,24 @@ impl Granted {
 
     /// The SUBACK of a renewal came: where it grants the filter, the route is sure.
     #[tactic(auto, using(crate::proofs::Subacks::grants_are))]
-    pub fn confirm(&mut self, asks: &[Ask], codes: &[u8])
+    fn confirm(&mut self, asks: &[Ask], codes: &[u8])
         ensures { self.new ≡ confirmed (granted_in (coded asks.now codes.now)) self.old }
     {
         if grants(asks, codes, &self.filter) {
             self.sure = true;
         }
+    }
+
+    /// What is left of it behind the SUBACK of a renewal: nothing where that refuses the filter.
+    #[tactic(auto, using(crate::proofs::Subacks::refuses_are))]
+    fn left(mut self, asks: &[Ask], codes: &[u8]) -> Option<Granted>
+        ensures { result ≡ left_of asks.now codes.now self }
+    {
+        if refuses(asks, codes, &self.filter) {
+            return None;
+        }
+        self.confirm(asks, codes);
+        Some(self)
     }
 
     /// Its task, where the filter fits the name and the task is nearer than the least so far.
@@ -81,7 +93,7 @@ impl Granted {
     }
 
     /// The session was lost.
-    pub fn lose(&mut self)
+    fn lose(&mut self)
         ensures { self.new ≡ unsure_now self.old }
     {
         self.sure = false;
@@ -89,61 +101,83 @@ impl Granted {
 }
 
 /// Whether it is a granted route.
-pub fn has(granted: &[Granted], task: u32, filter: &Text) -> bool
+pub fn has<const ROUTES: usize>(
+    granted: &OrderedCells<Granted, ROUTES>,
+    task: u32,
+    filter: &Text,
+) -> bool
     ensures { result ≡ list_any (λ g. g.task == task && bytes_eq g.topics filter.now) granted.now }
 {
-    granted
-        .iter()
-        .any(|other| other.task == task && other.filter == *filter)
+    granted.any(|other| other.task == task && other.filter == *filter)
 }
 
 /// Whether another task has a granted route of this filter.
-pub fn other_has(granted: &[Granted], task: u32, filter: &Text) -> bool
+pub fn other_has<const ROUTES: usize>(
+    granted: &OrderedCells<Granted, ROUTES>,
+    task: u32,
+    filter: &Text,
+) -> bool
     ensures { result ≡ list_any (λ g. not (g.task == task) && bytes_eq g.topics filter.now) granted.now }
 {
-    granted
-        .iter()
-        .any(|other| other.task != task && other.filter == *filter)
+    granted.any(|other| other.task != task && other.filter == *filter)
 }
 
 /// A SUBACK came: the routes that it grants are sure, and are renewed as was asked.
-pub fn renew_all(granted: &mut Vec<Granted>, asks: &[Ask], codes: &[u8])
-    ensures items { granted.new.items ≡ map (renewed_as (granted_in (coded asks.now codes.now)) asks.now) granted.old.items }
-    ensures room { vec_capacity granted.new ≡ vec_capacity granted.old }
+pub fn renew_all<const ROUTES: usize>(
+    granted: &mut OrderedCells<Granted, ROUTES>,
+    asks: &[Ask],
+    codes: &[u8],
+)
+    ensures { granted.new ≡ map (renewed_as (granted_in (coded asks.now codes.now)) asks.now) granted.old }
 {
-    for route in granted.iter_mut() {
+    granted.update(|mut route| {
         route.renew(asks, codes);
-    }
+        Some(route)
+    });
 }
 
 /// The session was lost.
-pub fn unsure_all(granted: &mut Vec<Granted>)
-    ensures items { granted.new.items ≡ map unsure_now granted.old.items }
-    ensures room { vec_capacity granted.new ≡ vec_capacity granted.old }
+pub fn unsure_all<const ROUTES: usize>(granted: &mut OrderedCells<Granted, ROUTES>)
+    ensures { granted.new ≡ map unsure_now granted.old }
 {
-    for route in granted.iter_mut() {
+    granted.update(|mut route| {
         route.lose();
-    }
+        Some(route)
+    });
 }
 
 /// The least task not below `from` that has a route here that fits the name.
-pub fn least_granted(granted: &[Granted], name: &str, from: u32) -> Option<u32>
+pub fn least_granted<const ROUTES: usize>(
+    granted: &OrderedCells<Granted, ROUTES>,
+    name: &str,
+    from: u32,
+) -> Option<u32>
     requires filters { list_all (λ g. is_filter g.topics) granted.now ≡ true }
     ensures { IsLeast (λ task. list_any (λ g. g.task == task && fits g.topics name.now) granted.now) from result }
 {
     let mut least = None;
-    for route in granted {
+    for k in 0..granted.len() {
+        let route = granted.at(k);
         least = route.nearest(name, from, least);
     }
     least
 }
 
 /// An unsubscribe of a task is done.
-pub fn drop_filters(granted: &mut Vec<Granted>, task: u32, filters: &[Text])
-    ensures items { granted.new.items ≡ filter (λ g. not (is_any_of task filters.now g)) granted.old.items }
-    ensures room { vec_capacity granted.new ≡ vec_capacity granted.old }
+pub fn drop_filters<const ROUTES: usize>(
+    granted: &mut OrderedCells<Granted, ROUTES>,
+    task: u32,
+    filters: &[Text],
+)
+    ensures { granted.new ≡ filter (λ g. not (is_any_of task filters.now g)) granted.old }
 {
-    granted.retain(|route| !(route.task == task && is_among(filters, &route.filter)));
+    granted.update(|route| {
+        if route.task == task && is_among(filters, &route.filter) {
+            None
+        } else {
+            Some(route)
+        }
+    });
 }
 
 fn is_among(filters: &[Text], filter: &Text) -> bool
@@ -153,34 +187,23 @@ fn is_among(filters: &[Text], filter: &Text) -> bool
 }
 
 /// A task left.
-pub fn drop_task(granted: &mut Vec<Granted>, task: u32)
-    ensures items { granted.new.items ≡ filter (λ g. not (g.task == task)) granted.old.items }
-    ensures room { vec_capacity granted.new ≡ vec_capacity granted.old }
+pub fn drop_task<const ROUTES: usize>(granted: &mut OrderedCells<Granted, ROUTES>, task: u32)
+    ensures { granted.new ≡ filter (λ g. not (g.task == task)) granted.old }
 {
-    granted.retain(|route| route.task != task);
+    granted.update(|route| if route.task == task {
+        None
+    } else {
+        Some(route)
+    });
 }
 
 /// The SUBACK of a renewal came: what it refuses is no route any more, and what it grants is sure.
-pub fn confirm_all(granted: &mut Vec<Granted>, asks: &[Ask], codes: &[u8])
-    ensures items { granted.new.items ≡ flat_map (renewal_coded asks.now codes.now) granted.old.items }
-    ensures room { vec_capacity granted.new ≡ vec_capacity granted.old }
+pub fn confirm_all<const ROUTES: usize>(
+    granted: &mut OrderedCells<Granted, ROUTES>,
+    asks: &[Ask],
+    codes: &[u8],
+)
+    ensures { granted.new ≡ flat_map (renewal_coded asks.now codes.now) granted.old }
 {
-    drop_refused(granted, asks, codes);
-    confirm_granted(granted, asks, codes);
-}
-
-fn confirm_granted(granted: &mut Vec<Granted>, asks: &[Ask], codes: &[u8])
-    ensures items { granted.new.items ≡ map (confirmed (granted_in (coded asks.now codes.now))) granted.old.items }
-    ensures room { vec_capacity granted.new ≡ vec_capacity granted.old }
-{
-    for route in granted.iter_mut() {
-        route.confirm(asks, codes);
-    }
-}
-
-fn drop_refused(granted: &mut Vec<Granted>, asks: &[Ask], codes: &[u8])
-    ensures items { granted.new.items ≡ filter (λ g. not (is_one_of (refused_in (coded asks.now codes.now)) g.topics)) granted.old.items }
-    ensures room { vec_capacity granted.new ≡ vec_capacity granted.old }
-{
-    granted.retain(|route| !refuses(asks, codes, &route.filter));
+    granted.update(|route| route.left(asks, codes));
 }

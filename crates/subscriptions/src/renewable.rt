@@ -10,6 +10,7 @@ ghost use Rattle.subscriptions.specs.Routing.{ask_in};
 use crate::granted::Granted;
 use list_types::Text;
 use mqtt_packet::{Ask, Asks, Qos};
+use ordered_cells::OrderedCells;
 use std::alloc::{AllocError, Global};
 use std::collections::BTreeSet;
 
@@ -18,9 +19,9 @@ const MOST: usize = 8;
 
 /// The filters of these routes, or of the unsure ones alone, each once and in increasing order: those of
 /// one renewal, from a place in that order on.
-pub fn renewable(
+pub fn renewable<const ROUTES: usize>(
     alloc: Global,
-    granted: &[Granted],
+    granted: &OrderedCells<Granted, ROUTES>,
     all: bool,
     from: usize,
 ) -> Result<Asks, AllocError>
@@ -46,9 +47,9 @@ fn one_renewal<'a>(
 }
 
 /// The filters of these routes, or of the unsure ones alone.
-fn filters_of<'a>(
+fn filters_of<'a, const ROUTES: usize>(
     alloc: Global,
-    granted: &'a [Granted],
+    granted: &'a OrderedCells<Granted, ROUTES>,
     all: bool,
 ) -> Result<BTreeSet<&'a str>, AllocError>
     ensures { IfOk result (λ filters. map (λ f. f.now) filters.keys ≡ sorted (map (λ g. g.topics) (filter (λ g. all || not g.sure) granted.now))) }
@@ -56,7 +57,7 @@ fn filters_of<'a>(
     let mut filters = BTreeSet::new(alloc);
     // From the back, as the definition puts them in order.
     for at in (0..granted.len()).rev() {
-        let route = &granted[at];
+        let route = granted.at(at);
         if route.is_wanted(all) {
             filters.insert(route.filter.as_str())?;
         }
@@ -65,7 +66,11 @@ fn filters_of<'a>(
 }
 
 /// What is asked for this filter: the quality of service stands with its first route.
-fn ask_in(alloc: Global, granted: &[Granted], filter: &str) -> Result<Ask, AllocError>
+fn ask_in<const ROUTES: usize>(
+    alloc: Global,
+    granted: &OrderedCells<Granted, ROUTES>,
+    filter: &str,
+) -> Result<Ask, AllocError>
     ensures { IfOk result (λ ask. ask ≡ ask_in granted.now filter.now) }
 {
     Ok(Ask {
@@ -74,11 +79,13 @@ fn ask_in(alloc: Global, granted: &[Granted], filter: &str) -> Result<Ask, Alloc
     })
 }
 
-fn first_qos(granted: &[Granted], filter: &str) -> Option<Qos>
+fn first_qos<const ROUTES: usize>(
+    granted: &OrderedCells<Granted, ROUTES>,
+    filter: &str,
+) -> Option<Qos>
     ensures { result ≡ option_map (λ g. g.qos) (find (λ g. bytes_eq g.topics filter.now) granted.now) }
 {
     granted
-        .iter()
         .find(|route| route.filter.as_str() == filter)
         .map(|route| route.qos)
 }

@@ -16,30 +16,32 @@ use crate::renewal::{self, Renewal};
 use crate::room::{count_all, surely_fit};
 use list_types::{Copied, Text};
 use mqtt_packet::{Asks, Codes, Filters};
+use ordered_cells::OrderedCells;
 use std::alloc::{AllocError, Global};
 use std::marker::Model;
 
 /// What the agent knows of its routes. Contracts see the lists of `Routing`. With those that are asked
-/// for there are at most ROUTES routes, which is 1 to 1,024. `new` takes the room of them; beside it only
-/// `ask`, `renewed` and `unsure` take memory.
+/// for there are at most ROUTES routes, which is 1 to 1,024.
+///
+/// `new` takes ROUTES cells for the routes that were granted. The lists of open subscribes and renewals
+/// stand beside them and grow, since ROUTES doesn't bound their number: beside `new` only `ask`, `renewed`
+/// and `unsure` take memory.
 #[derive(Debug, Drop)]
 pub struct Subscriptions<const ROUTES: usize> {
-    granted: Vec<Granted>,
+    granted: OrderedCells<Granted, ROUTES>,
     asked: Vec<Asked>,
     renewals: Vec<Renewal>,
 }
 
 impl<const ROUTES: usize> Model for Subscriptions<ROUTES> {
-    ghost use Rattle.std.specs.Prelude.{◌≤◌};
-    ghost use Rattle.std.specs.Vec.{vec_capacity};
     ghost use Rattle.subscriptions.specs.Routing.{Routing};
     ghost use Rattle.subscriptions.specs.Rooms.{IsSound};
 
     ghost Value = { Routing };
 
-    ghost view = { λ s. record { granted = s.granted.items; asked = s.asked.items; renewals = s.renewals.items } };
+    ghost view = { λ s. record { granted = s.granted; asked = s.asked.items; renewals = s.renewals.items } };
 
-    ghost invariant = { λ s. IsSound ROUTES s.granted.items s.asked.items × (ROUTES ≤ vec_capacity s.granted) };
+    ghost invariant = { λ s. IsSound ROUTES s.granted s.asked.items };
 }
 
 impl<const ROUTES: usize> Subscriptions<ROUTES> {
@@ -49,7 +51,7 @@ impl<const ROUTES: usize> Subscriptions<ROUTES> {
         ensures { IfOk result (λ routing. routing ≡ routes.nothing) }
     {
         Ok(Subscriptions {
-            granted: Vec::with_capacity(alloc, ROUTES)?,
+            granted: OrderedCells::new(alloc)?,
             asked: Vec::new(alloc),
             renewals: Vec::new(alloc),
         })
@@ -61,7 +63,7 @@ impl<const ROUTES: usize> Subscriptions<ROUTES> {
         ensures { result ≡ routes.has_room ROUTES self.now task asks.now }
     {
         let asks = asks.as_slice();
-        surely_fit(&self.granted, &self.asked, asks, ROUTES)
+        surely_fit(&self.granted, &self.asked, asks)
             || count_all(&self.granted, &self.asked, task, asks) <= ROUTES
     }
 

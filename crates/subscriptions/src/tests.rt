@@ -8,6 +8,7 @@ use super::*;
 use list_types::Text;
 use mqtt_packet::{Ask, Asks, Codes, Filters, Qos};
 use std::alloc::{AllocError, Global};
+use std::process::Abort;
 use std::test::Fail;
 use topic_filter::{is_filter, is_name};
 
@@ -189,6 +190,51 @@ fn a_task_leaves(rt: HostRuntime) -> Result<(), Fail> {
     assert_eq!(rt; reached(&routes, "a/b"), [false, false, true]);
     routes.lose_all();
     assert_eq!(rt; reached(&routes, "a/b"), [false, false, false]);
+    Ok(())
+}
+
+/// Each call, where nothing is routed.
+fn each_call<const ROUTES: usize>(
+    rt: &impl Abort,
+    alloc: Global,
+    routes: &mut Subscriptions<ROUTES>,
+) -> Result<(), AllocError> {
+    assert!(rt; subscribe(routes, alloc, 1, 1, &[("a", MIDDLE), ("b", LOW)])?);
+    assert_eq!(rt; routes.asked_len(1), Some(2));
+    assert!(rt; suback(routes, alloc, 1, &[1, 0])?);
+    assert_eq!(rt; subscribe(routes, alloc, 2, 2, &[("a", LOW)])?, ROUTES > 2);
+    routes.lose(2);
+    routes.lose_all();
+    assert!(rt; is_reached(routes, "b", 1));
+    assert!(rt; other_has(routes, alloc, 2, "b")?);
+    unsubscribe(routes, alloc, 1, "b")?;
+    assert!(rt; !is_reached(routes, "b", 1));
+    routes.session_lost();
+    renew(routes, alloc, 9)?;
+    assert_eq!(rt;
+        (routes.renewal_len(9), routes.renewals_len()),
+        (Some(1), 1)
+    );
+    assert!(rt; renewal_suback(routes, alloc, 9, &[1])?);
+    routes.set_renewals(one_renewal(alloc, 3)?);
+    routes.broke();
+    assert_eq!(rt; routes.renewals_len(), 0);
+    routes.drop_task(1);
+    assert!(rt; !is_reached(routes, "a", 1));
+    Ok(())
+}
+
+#[test]
+fn each_call_at_2(rt: HostRuntime) -> Result<(), Fail> {
+    let mut routes = Subscriptions::<2>::new(rt.alloc())?;
+    each_call(&rt, rt.alloc(), &mut routes)?;
+    Ok(())
+}
+
+#[test]
+fn each_call_at_1024(rt: HostRuntime) -> Result<(), Fail> {
+    let mut routes = Subscriptions::<1024>::new(rt.alloc())?;
+    each_call(&rt, rt.alloc(), &mut routes)?;
     Ok(())
 }
 

@@ -6,36 +6,31 @@ use Rattle.subscriptions.proofs.added.add_all.Goals as goal
 use Rattle.subscriptions.proofs.added.add_all.Goals.{in-Some, in_default}
 
 pub loop-code-init : goal.loop-code-init
-loop-code-init c = record { whole = added_start c.args.task c.args.asks.items c.reverse.new.self.items c.args.codes.now c.args.granted.now.items c.reverse.ensures.items; room = refl }
+loop-code-init g c = added_start c.args.task c.args.asks.items c.reverse.new.self.items c.args.codes.now c.args.granted.now c.reverse.ensures.items
 
 pub add-requires : goal.add-requires
-add-requires c =
-    let step = added_step c.args.task c.loop-code.asks.items c.pop.new.self.items c.in-Some.ask c.args.codes.now c.loop-code.code-index c.loop-code.granted.items c.in-Some.ensures.items c.loop-code-test.true in
-    let now = with_coded c.args.task (c.in-Some.ask ∷ reverse c.pop.new.self.items) (get_or c.args.codes.now c.loop-code.code-index 0) c.loop-code.granted.items c.in-Some.ask.filter in
+add-requires g c =
+    let step = added_step c.args.task c.loop-code.asks.items c.pop.new.self.items c.in-Some.ask c.args.codes.now c.loop-code.code-index c.loop-code.granted c.in-Some.ensures.items c.loop-code-test.true in
+    let now = with_coded c.args.task (c.in-Some.ask ∷ reverse c.pop.new.self.items) (get_or c.args.codes.now c.loop-code.code-index 0) c.loop-code.granted c.in-Some.ask.filter in
     let more = added_longer c.args.task (reverse c.pop.new.self.items) (drop (c.loop-code.code-index + 1) c.args.codes.now) now in
-    let whole = ap length (sym step ∙ c.loop-code.invariant.whole) in
-    let room = c.loop-code.invariant.room in
-    let most = c.requires.room in
-    record { room = rw c.deref.ensures.value (omega (arith, more, whole, room, most)) }
+    let whole = ap length (sym step ∙ c.loop-code.invariant) in
+    let most = c.requires in
+    rw c.deref.ensures.value (omega (arith, more, whole, most))
 
 pub loop-code-preserved : goal.loop-code-preserved
-loop-code-preserved c = elim c.match-pop.branch [
+loop-code-preserved g c = elim c.match-pop.branch [
   | in-Some w ↦
-      let now = rw w.deref.ensures.value at w.add.ensures.items in
-      rw w.granted-is
-      (record {
-        whole = added_on c.args.task c.loop-code.asks.items c.pop.new.self.items w.in-Some.ask c.args.codes.now c.loop-code.code-index c.loop-code.granted.items w.add.new.granted.items _ w.in-Some.ensures.items c.loop-code-test.true now c.loop-code.invariant.whole;
-        room = w.add.ensures.room ∙ c.loop-code.invariant.room;
-      })
+      let now = rw w.deref.ensures.value at w.add.ensures in
+      rw w.granted-is (added_on c.args.task c.loop-code.asks.items c.pop.new.self.items w.in-Some.ask c.args.codes.now c.loop-code.code-index c.loop-code.granted w.add.new.granted _ w.in-Some.ensures.items c.loop-code-test.true now c.loop-code.invariant)
   | in_default w ↦
       let old = c.loop-code.asks.ok.0 in
       let new = c.pop.new.self.ok.0 in
       let none = w.in_default.ensures.cases in
-      let end = added_end c.args.task c.loop-code.asks.items c.pop.new.self.items (drop c.loop-code.code-index c.args.codes.now) (drop (c.loop-code.code-index + 1) c.args.codes.now) c.loop-code.granted.items (omega (arith, old, none)) (omega (arith, new, none)) in
-      rw w.granted-is (record { whole = sym end ∙ c.loop-code.invariant.whole; room = c.loop-code.invariant.room })
+      let end = added_end c.args.task c.loop-code.asks.items c.pop.new.self.items (drop c.loop-code.code-index c.args.codes.now) (drop (c.loop-code.code-index + 1) c.args.codes.now) c.loop-code.granted (omega (arith, old, none)) (omega (arith, new, none)) in
+      rw w.granted-is (sym end ∙ c.loop-code.invariant)
 ]
 
-pub returns-clause-items : goal.returns-clause-items
-returns-clause-items c =
+pub returns : goal.returns
+returns g c =
     let none : drop c.loop-code.code-index c.args.codes.now ≡ [] = drop_all c.loop-code.code-index c.args.codes.now c.loop-code-test.false in
-    sym (ap (λ codes. added c.args.task (reverse c.loop-code.asks.items) codes c.loop-code.granted.items) none ∙ added_none c.args.task (reverse c.loop-code.asks.items) c.loop-code.granted.items) ∙ c.loop-code.invariant.whole
+    sym (ap (λ codes. added c.args.task (reverse c.loop-code.asks.items) codes c.loop-code.granted) none ∙ added_none c.args.task (reverse c.loop-code.asks.items) c.loop-code.granted) ∙ c.loop-code.invariant

@@ -1,6 +1,8 @@
-use Rattle.std.proofs.Common.{rules}
-use Rattle.std.proofs.lemmas.Fn.{filter_same}
+use Rattle.std.proofs.Common.{rules, ◌∙◌, Option, Some, None}
+use Rattle.std.specs.Prelude.{if◌then◌else◌}
+use Rattle.subscriptions.specs.Routing.{Granted, is_any_of}
+use Rattle.subscriptions.proofs.Lists.{none_where}
 use Rattle.subscriptions.proofs.granted.drop_filters.Goals as goal
 
-pub returns-clause-items : goal.returns-clause-items
-returns-clause-items c = filter_same _ _ _ (λ x b f' k. search rules) _ _ c.retain.ensures.filtered
+pub returns : goal.returns
+returns g c = c.update.ensures (λ route. if is_any_of c.args.task c.args.filters.now route then None else Some route) (λ route answer k. search rules) ∙ none_where (is_any_of c.args.task c.args.filters.now) c.args.granted.now

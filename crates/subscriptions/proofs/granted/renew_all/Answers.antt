@@ -1,10 +1,10 @@
-use Rattle.std.proofs.Common.{◌<◌, length, arith}
+use Rattle.std.proofs.Common.{rules, ◌∙◌, Option, Some}
 use Rattle.agent_table.specs.Routes.{coded, granted_in}
-use Rattle.subscriptions.specs.Routing.{renewed_as}
-use Rattle.subscriptions.proofs.Lists.{changed}
+use Rattle.subscriptions.specs.Routing.{Granted, renewed_as}
+use Rattle.subscriptions.proofs.Lists.{some_of_each}
 use Rattle.subscriptions.proofs.granted.renew_all.Goals as goal
 
-pub loop-route-preserved : goal.loop-route-preserved
-loop-route-preserved c =
-    let inside : c.loop-route.route-index < length c.args.granted.now.items = omega arith in
-    changed (renewed_as (granted_in (coded c.args.asks.now c.args.codes.now)) c.args.asks.now) c.args.granted.now.items c.loop-route.route-items c.loop-route.route-index c.route-item.result c.renew.new.self inside c.loop-route.invariant c.renew.ensures
+pub returns : goal.returns
+returns g c =
+    let f : Granted → Granted = renewed_as (granted_in (coded c.args.asks.now c.args.codes.now)) c.args.asks.now in
+    c.update.ensures (λ route. Some (f route)) (λ route answer k. search rules) ∙ some_of_each f c.args.granted.now

@@ -1,9 +1,7 @@
-use Rattle.std.proofs.Common.{◌<◌, length, arith}
+use Rattle.std.proofs.Common.{rules, ◌∙◌, Some}
 use Rattle.subscriptions.specs.Routing.{unsure_now}
-use Rattle.subscriptions.proofs.Lists.{changed}
+use Rattle.subscriptions.proofs.Lists.{some_of_each}
 use Rattle.subscriptions.proofs.granted.unsure_all.Goals as goal
 
-pub loop-route-preserved : goal.loop-route-preserved
-loop-route-preserved c =
-    let inside : c.loop-route.route-index < length c.args.granted.now.items = omega arith in
-    changed unsure_now c.args.granted.now.items c.loop-route.route-items c.loop-route.route-index c.route-item.result c.lose.new.self inside c.loop-route.invariant c.lose.ensures
+pub returns : goal.returns
+returns g c = c.update.ensures (λ route. Some (unsure_now route)) (λ route answer k. search rules) ∙ some_of_each unsure_now c.args.granted.now

@@ -5,7 +5,7 @@ use Rattle.subscriptions.proofs.room.count_new.Goals as goal
 use Rattle.subscriptions.proofs.room.count_new.Goals.{then-is_new, else-is_new}
 
 pub loop-at-preserved : goal.loop-at-preserved
-loop-at-preserved c =
+loop-at-preserved g c =
     let step = new_step (routes_with c.args.granted.now c.args.asked.now) c.args.task c.args.asks.now c.loop-at.at c.index-asks-at.result c.is_new.result c.loop-at-test.true c.index-asks-at.is c.is_new.ensures in
     let old = c.loop-at.invariant.count in
     let most = c.loop-at.invariant.most in

@@ -3,4 +3,4 @@ use Rattle.subscriptions.specs.Rooms.{routes_with}
 use Rattle.subscriptions.proofs.room.count_routes.Given as goal
 
 abbrev pub invariant-loop-at : goal.invariant-loop-at
-invariant-loop-at l = l.count ≡ length (routes_with l.granted (take l.at l.asked))
+invariant-loop-at g l = l.count ≡ length (routes_with l.granted (take l.at l.asked))

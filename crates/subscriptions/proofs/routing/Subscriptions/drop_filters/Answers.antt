@@ -4,7 +4,5 @@ use Rattle.subscriptions.proofs.Keeping.{kept_fewer}
 use Rattle.subscriptions.proofs.routing.Subscriptions.drop_filters.Goals as goal
 
 pub invariant_of-self : goal.invariant_of-self
-invariant_of-self g c = (
-  rw c.drop_filters.ensures.items (kept_fewer (λ (route : Granted). not (is_any_of c.args.task c.as_slice.result.now route)) g.row.ROUTES c.self.inside.granted.items c.self.inside.asked.items c.self.invariant.0),
-  rw c.drop_filters.ensures.room c.self.invariant.1,
-)
+invariant_of-self g c =
+    rw c.drop_filters.ensures (kept_fewer (λ (route : Granted). not (is_any_of c.args.task c.as_slice.result.now route)) g.row.ROUTES c.self.inside.granted c.self.inside.asked.items c.self.invariant)

@@ -6,8 +6,6 @@ use Rattle.subscriptions.proofs.routing.Subscriptions.drop_task.Goals as goal
 
 pub invariant_of-self : goal.invariant_of-self
 invariant_of-self g c =
-    let gone = λ (route : Granted). not (route.task == c.args.task) in (
-      rw (c.drop_task.ensures.items, c.leave_all.ensures)
-          (kept_left c.args.task g.row.ROUTES (filter gone c.self.inside.granted.items) c.self.inside.asked.items (kept_fewer gone g.row.ROUTES c.self.inside.granted.items c.self.inside.asked.items c.self.invariant.0)),
-      rw c.drop_task.ensures.room c.self.invariant.1,
-    )
+    let gone = λ (route : Granted). not (route.task == c.args.task) in
+    rw (c.drop_task.ensures, c.leave_all.ensures)
+    (kept_left c.args.task g.row.ROUTES (filter gone c.self.inside.granted) c.self.inside.asked.items (kept_fewer gone g.row.ROUTES c.self.inside.granted c.self.inside.asked.items c.self.invariant))

@@ -9,14 +9,14 @@ use Rattle.subscriptions.proofs.routing.Subscriptions.has_room.Goals as goal
 
 pub returns-then-surely_fit : goal.returns-then-surely_fit
 returns-then-surely_fit g c =
-    let count = length (with_routes (with_routes [] (routes_with c.self.inside.granted.items c.self.inside.asked.items)) (routes_asked c.args.task c.args.asks.now)) in
-    let most = room_most c.self.inside.granted.items c.self.inside.asked.items c.args.task c.args.asks.now c.self.invariant.0.once in
-    let few = le_of (length c.self.inside.granted.items + length c.args.asks.now + length (asked_routes c.self.inside.asked.items)) g.row.ROUTES (rw (c.deref.ensures.value, c.deref-2.ensures.value, c.as_slice-asks.ensures) at (sym c.surely_fit.ensures ∙ c.if-surely_fit.true)) in
+    let count = length (with_routes (with_routes [] (routes_with c.self.inside.granted c.self.inside.asked.items)) (routes_asked c.args.task c.args.asks.now)) in
+    let most = room_most c.self.inside.granted c.self.inside.asked.items c.args.task c.args.asks.now c.self.invariant.once in
+    let few = le_of (length c.self.inside.granted + length c.args.asks.now + length (asked_routes c.self.inside.asked.items)) g.row.ROUTES (rw (c.deref.ensures.value, c.as_slice-asks.ensures) at (sym c.surely_fit.ensures ∙ c.if-surely_fit.true)) in
     c.if-surely_fit.true ∙ sym (le_true count g.row.ROUTES (omega (arith, most, few))) ∙ ap (λ (k : Routing). has_room g.row.ROUTES k c.args.task c.args.asks.now) c.self.view_is
 
 pub returns-else-surely_fit : goal.returns-else-surely_fit
 returns-else-surely_fit g c =
-    let there = routes_with c.self.inside.granted.items c.self.inside.asked.items in
-    let count = rw (c.deref-else-surely_fit.ensures.value, c.deref-else-surely_fit-2.ensures.value, c.as_slice-asks.ensures) at c.count_all.ensures in
-    let all = room_is there (routes_asked c.args.task c.args.asks.now) (once_with_all (map route_of c.self.inside.granted.items) (asked_routes c.self.inside.asked.items) c.self.invariant.0.once) in
+    let there = routes_with c.self.inside.granted c.self.inside.asked.items in
+    let count = rw (c.deref-else-surely_fit.ensures.value, c.as_slice-asks.ensures) at c.count_all.ensures in
+    let all = room_is there (routes_asked c.args.task c.args.asks.now) (once_with_all (map route_of c.self.inside.granted) (asked_routes c.self.inside.asked.items) c.self.invariant.once) in
     ap (λ n. nat_le n g.row.ROUTES) (count ∙ sym all) ∙ ap (λ (k : Routing). has_room g.row.ROUTES k c.args.task c.args.asks.now) c.self.view_is

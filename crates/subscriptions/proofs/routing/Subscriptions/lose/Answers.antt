@@ -4,4 +4,4 @@ use Rattle.subscriptions.proofs.Keeping.{kept_lost}
 use Rattle.subscriptions.proofs.routing.Subscriptions.lose.Goals as goal
 
 pub invariant_of-self : goal.invariant_of-self
-invariant_of-self g c = (rw c.drop_id.ensures (kept_lost (λ (a : Asked). not (has_id c.args.id a)) g.row.ROUTES c.self.inside.granted.items c.self.inside.asked.items c.self.invariant.0), c.self.invariant.1)
+invariant_of-self g c = rw c.drop_id.ensures (kept_lost (λ (a : Asked). not (has_id c.args.id a)) g.row.ROUTES c.self.inside.granted c.self.inside.asked.items c.self.invariant)

@@ -6,7 +6,7 @@ use Rattle.subscriptions.proofs.routing.Subscriptions.renewals_len.Goals as goal
 
 pub returns-clause-few : goal.returns-clause-few
 returns-clause-few g c = λ all.
-    let k : Routing = record { granted = c.self.inside.granted.items; asked = c.self.inside.asked.items; renewals = c.self.inside.renewals.items } in
+    let k : Routing = record { granted = c.self.inside.granted; asked = c.self.inside.asked.items; renewals = c.self.inside.renewals.items } in
     let few = renewable_few all k in
-    let room = granted_room g.row.ROUTES c.self.inside.granted.items c.self.inside.asked.items c.self.invariant.0 in
+    let room = granted_room g.row.ROUTES c.self.inside.granted c.self.inside.asked.items c.self.invariant in
     rw (← c.self.view_is) (omega (arith, few, room))

@@ -1,0 +1,3 @@
+pub mod Words
+pub mod Cells
+pub mod Keys
