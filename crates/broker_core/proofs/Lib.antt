@@ -1,0 +1,17 @@
+mod Fresh
+mod Places
+mod Loops
+mod Granting
+mod Windows
+mod Publishing
+mod Walk
+mod Sound
+mod Sizes
+mod InWindow
+mod Once
+mod Worked
+mod Standing
+mod Resuming
+mod Taking
+mod Offers
+mod Validity
