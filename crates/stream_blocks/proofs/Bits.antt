@@ -185,7 +185,8 @@ ones_zero : count_ones 0 ≡ 0
 unfolding ones
 ones_zero = refl
 
-ones_bits : (k w : ℕ) → w < 2 ^ k → sum_by (λ b. cond b 1 0) (bits k w) ≡ count_ones w
+-- as many flags are set as bits of the word
+pub ones_bits : (k w : ℕ) → w < 2 ^ k → sum_by (λ b. cond b 1 0) (bits k w) ≡ count_ones w
 ones_bits zero w lt =
     let none : w ≡ 0 = omega (arith, lt) in
     rw none (sym ones_zero)
@@ -198,7 +199,7 @@ all_ones [] fits = refl
 all_ones (w ∷ words) fits =
     sum_by-append (λ b. cond b 1 0) (bits 64 w) (all_bits words) ∙ rw (ones_bits 64 w (fits zero), all_ones words (λ k. fits (suc k))) (sym (sum_by-cons count_ones w words))
 
-none_counted : (flags : List Bool) → HasNone flags → sum_by (λ b. cond b 1 0) flags ≡ 0
+pub none_counted : (flags : List Bool) → HasNone flags → sum_by (λ b. cond b 1 0) flags ≡ 0
 none_counted [] h = refl
 none_counted (true ∷ flags) h = absurd (let e = h zero in cc)
 none_counted (false ∷ flags) h = sum_by-cons (λ b. cond b 1 0) false flags ∙ rw (none_counted flags (λ j. h (suc j))) refl

@@ -1,9 +1,13 @@
 mod Again
-mod Bits
+mod Backward
+pub mod Bits
 mod Chunks
+mod Maps
 mod Members
+mod Messages
 mod Puts
 mod ReadBack
 mod Relation
 mod Shorter
-mod Utf8
+mod Slots
+pub mod Utf8

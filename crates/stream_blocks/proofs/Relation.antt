@@ -12,14 +12,14 @@ use Rattle.stream_blocks.proofs.Again.{wide, counted_again}
 use Rattle.stream_blocks.proofs.Chunks.{at_break, at_chunk, content_more, content_end}
 
 -- a head: its first byte, and what its argument reads as
-record Heads (major n : ℕ) (bytes : List ℕ) : Type 0 where
-  info : ℕ
-  digits : List ℕ
-  is : bytes ≡ (32 * major + info) ∷ digits
-  small : info < 28
-  read : (rest : List ℕ) → argument_at info (digits ++ rest) ≡ Some (n, rest)
+pub record Heads (major n : ℕ) (bytes : List ℕ) : Type 0 where
+  pub info : ℕ
+  pub digits : List ℕ
+  pub is : bytes ≡ (32 * major + info) ∷ digits
+  pub small : info < 28
+  pub read : (rest : List ℕ) → argument_at info (digits ++ rest) ≡ Some (n, rest)
 
-heads : (major : ℕ) (bytes : List ℕ) (n : ℕ) → IsHead major bytes n → Heads major n bytes
+pub heads : (major : ℕ) (bytes : List ℕ) (n : ℕ) → IsHead major bytes n → Heads major n bytes
 unfolding argument_at byte_at
 heads major bytes n (inl h) = record { info = n; digits = []; is = h.1; small = omega (arith, h.0); read = λ rest. rw (lt-ltb n 24 h.0) refl }
 heads major bytes n (inr (inl h)) = record { info = 24; digits = to_be_bytes w8 n; is = h.1; small = omega arith; read = λ rest. ap (λ (m : ℕ). Some (m, rest)) (omega (arith, h.0)) }
@@ -43,7 +43,7 @@ content_right : (major : ℕ) (content : List ℕ) → IsContent major content �
 content_right major content right =
     ⊎_elim (λ e. rw (eq-eqb major 3 e, is_utf8-from_IsUtf8 content (right e)) refl) (λ apart. rw (ne_eqb major 3 apart) refl) (cases_eq major 3)
 
-piece_is : (major : ℕ) (bytes content rest : List ℕ) → IsPiece major bytes content → piece_at major (bytes ++ rest) ≡ Some (content, rest)
+pub piece_is : (major : ℕ) (bytes content rest : List ℕ) → IsPiece major bytes content → piece_at major (bytes ++ rest) ≡ Some (content, rest)
 unfolding piece_at
 piece_is major bytes content rest p =
     ap (λ (b : List ℕ). piece_at major (b ++ rest)) p.1 ∙ ap (piece_at major) (append_assoc p.0 content rest)
@@ -65,7 +65,7 @@ no_break_by : (major info : ℕ) (behind rest : List ℕ) → major < 7 → info
 unfolding break_at
 no_break_by major info behind rest low small = rw (ne_eqb (32 * major + info) 255 (λ e. omega (arith, e, low, small))) refl
 
-no_break : (major : ℕ) (bytes content rest : List ℕ) → major < 7 → IsPiece major bytes content → break_at (bytes ++ rest) ≡ None
+pub no_break : (major : ℕ) (bytes content rest : List ℕ) → major < 7 → IsPiece major bytes content → break_at (bytes ++ rest) ≡ None
 no_break major bytes content rest low p =
     let s = starts major bytes content p in
     ap (λ (b : List ℕ). break_at (b ++ rest)) s.is ∙ no_break_by major s.info s.behind rest low s.small

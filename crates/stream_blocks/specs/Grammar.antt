@@ -1,8 +1,12 @@
 -- Which bytes are a data message or a request: the part of CBOR (RFC 8949) that is read, as relations between bytes and
 -- what they say. They tell nothing of how bytes are read.
-use Rattle.std.specs.Prelude.{◌≡◌, ◌⊎◌, ℕ, ◌+◌, ◌*◌, ◌^◌, ◌<◌, List, [], ◌∷◌, ◌++◌, length, if◌then◌else◌, codes, IsUtf8}
+use Rattle.std.specs.Prelude.{◌≡◌, ◌⊎◌, ℕ, ◌+◌, ◌*◌, ◌^◌, ◌<◌, List, [], ◌∷◌, ◌++◌, length, get_or, if◌then◌else◌, codes, IsUtf8}
 use Rattle.std.specs.Int.{to_be_bytes, Width, w8, w16, w32, w64}
 use Rattle.std.specs.Str.{bytes_eq}
+
+-- each is one byte
+abbrev pub AreBytes : List ℕ → Type 0
+AreBytes bytes = (i : ℕ) → get_or bytes i 0 < 256
 
 -- ---- Heads (section 3)
 

@@ -1,6 +1,6 @@
 -- Laws of the definitions, each the contract of a function that does nothing.
-use Rattle.std.specs.Prelude.{◌≡◌, ℕ, ◌<◌, ◌≤◌, ◌^◌, List, ◌++◌, length, Some, Ok}
-use Rattle.stream_blocks.specs.Grammar.{IsHead, IsString, IsValue}
+use Rattle.std.specs.Prelude.{◌≡◌, ◌↔◌, ℕ, ◌<◌, ◌≤◌, ◌^◌, List, ◌++◌, length, Some, Ok}
+use Rattle.stream_blocks.specs.Grammar.{AreBytes, IsHead, IsString, IsValue, IsBlock, IsRequest}
 use Rattle.stream_blocks.specs.Spelling.{block, request}
 use Rattle.stream_blocks.specs.Reading.{head_at, string_end, content_of, value_end, block_of, request_of}
 
@@ -29,3 +29,16 @@ StringsAreRead =
 -- A value of the grammar is passed as a whole.
 abbrev pub ValuesAreRead : Type 0
 ValuesAreRead = (bytes rest : List ℕ) → IsValue bytes → value_end (bytes ++ rest) ≡ Ok rest
+
+-- Bytes are the data message of this block exactly where they read as it, in a buffer that has room for the payload.
+abbrev pub BlocksAreRead : Type 0
+BlocksAreRead =
+    (room file index : ℕ) (message payload : List ℕ) → AreBytes message
+    → (block_of room message ≡ Ok (file, index, payload)) ↔ (IsBlock message file index payload × (length payload ≤ room))
+
+-- Bytes are the request with these fields exactly where they read as it, and the fields are in their ranges.
+abbrev pub RequestsAreRead : Type 0
+RequestsAreRead =
+    (file size offset count : ℕ) (message bitmap : List ℕ) → AreBytes message
+    → (request_of message ≡ Ok (file, size, offset, count, bitmap))
+    ↔ (IsRequest message file size offset count bitmap × (file < 2 ^ 32) × (size < 2 ^ 32) × (offset < 2 ^ 32) × (count < 2 ^ 32) × (length bitmap ≤ 32))

@@ -28,3 +28,13 @@ pub fn strings_are_read()
 pub fn values_are_read()
     ensures { laws.ValuesAreRead }
 {}
+
+/// Bytes are a data message of the grammar exactly where they read as it.
+pub fn blocks_are_read()
+    ensures { laws.BlocksAreRead }
+{}
+
+/// Bytes are a request of the grammar exactly where they read as it, its fields in their ranges.
+pub fn requests_are_read()
+    ensures { laws.RequestsAreRead }
+{}

@@ -17,7 +17,8 @@ mod words;
 pub use block::{Head, read_block, write_block};
 pub use fault::{CborFault, TooSmall};
 pub use laws::{
-    blocks_are_read_back, heads_are_read, requests_are_read_back, strings_are_read, values_are_read,
+    blocks_are_read, blocks_are_read_back, heads_are_read, requests_are_read,
+    requests_are_read_back, strings_are_read, values_are_read,
 };
 pub use missing::Missing;
 pub use request::{AskBlocks, read_request, write_request};
