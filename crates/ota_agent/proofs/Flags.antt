@@ -1,13 +1,13 @@
 -- Flags as the bits of bytes.
 use Rattle.std.proofs.Common.{◌≡◌, ℕ, zero, suc, ◌+◌, ◌-◌, ◌*◌, ◌/◌, ◌%◌, ◌^◌, ◌<◌, ◌≤◌, min, Bool, true, false, cond, List, [], ◌∷◌, ◌++◌, length, drop, get_or, Some, refl, sym, ap, ◌∙◌, ⊎_elim, count_ones, arith, length-append}
 use Rattle.std.specs.Prelude.{◌==◌}
-use lib.Count.{ones, ones_step}
 use mir.Val.{bool_byte}
 use native.Mathlib.Nat.{pow-suc}
 use Rattle.std.proofs.lemmas.Bool.{cases_lt}
 use Rattle.std.proofs.lemmas.List.{get_or_append_left, get_or-append_right, get_or-take, get_or_past, get_or-drop, length-take, length-drop, flat_map_more}
 use Rattle.std.proofs.lemmas.List.Sums.{sum_by-cons, sum_by-append, count_by-le-length}
 use Rattle.stream_blocks.specs.Sets.{bits, count, first, first_from}
+use Rattle.stream_blocks.proofs.Bits.{ones_bits, none_counted}
 use Rattle.ota_agent.specs.Requests.{window, map_flags}
 
 -- ---- The window
@@ -72,23 +72,6 @@ next_byte w map k byte len so_far here j low =
     (λ le. get_or-append_right (map_flags map) (bits 8 byte) (8 * k) j false (omega (arith, len, flags_len map)) le ∙ here (j - 8 * k) (omega (arith, low, le)) ∙ ap (λ (n : ℕ). get_or w n false) (omega (arith, le)))
     (cases_lt j (8 * k))
 
-parity : (d : ℕ) → d < 2 → cond (d == 1) 1 0 ≡ d
-parity zero lt = refl
-parity (suc zero) lt = refl
-parity (suc (suc d)) lt = absurd (omega (arith, lt))
-
-ones_zero : count_ones 0 ≡ 0
-unfolding ones
-ones_zero = refl
-
-ones_bits : (k w : ℕ) → w < 2 ^ k → count (bits k w) ≡ count_ones w
-ones_bits zero w lt =
-    let none : w ≡ 0 = omega (arith, lt) in
-    rw none (sym ones_zero)
-ones_bits (suc k) w lt =
-    let less : w / 2 < 2 ^ k = omega (arith, lt, pow-suc 2 k) in
-    sum_by-cons (λ b. cond b 1 0) (w % 2 == 1) (bits k (w / 2)) ∙ rw (parity (w % 2) (omega arith), ones_bits k (w / 2) less) (sym (ones_step w))
-
 pub next_count : (map : List ℕ) (byte : ℕ) → byte < 256 → count (map_flags map) + count_ones byte ≡ count (map_flags (map ++ byte ∷ []))
 next_count map byte lt =
     omega (arith, ones_bits 8 byte lt, sum_by-append (λ b. cond b 1 0) (map_flags map) (bits 8 byte), ap count (flat_map_more (bits 8) [] map byte))
@@ -97,11 +80,6 @@ pub few : (map : List ℕ) (byte : ℕ) → byte < 256 → count (map_flags map)
 few map byte lt = omega (arith, ones_bits 8 byte lt, count_by-le-length (λ b. b) (bits 8 byte), count_by-le-length (λ b. b) (map_flags map), flags_len map)
 
 -- ---- All bytes
-
-none_counted : (flags : List Bool) → ((j : ℕ) → get_or flags j false ≡ false) → count flags ≡ 0
-none_counted [] h = refl
-none_counted (true ∷ flags) h = absurd (let e = h zero in cc)
-none_counted (false ∷ flags) h = sum_by-cons (λ b. cond b 1 0) false flags ∙ rw (none_counted flags (λ j. h (suc j))) refl
 
 pub count_same : (xs ys : List Bool) → ((j : ℕ) → get_or xs j false ≡ get_or ys j false) → count xs ≡ count ys
 count_same [] ys same = sym (none_counted ys (λ j. sym (same j)))
