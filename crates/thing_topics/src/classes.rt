@@ -6,7 +6,7 @@ ghost use Rattle.thing_topics.specs.Classes as classes;
 
 /// Whether a text names a thing: 1 to 128 ASCII letters, digits, `:`, `_` and `-`.
 #[tactic(auto, unfolding(crate::specs::Classes::is_thing))]
-pub(crate) fn is_thing(text: &str) -> bool
+pub fn is_thing(text: &str) -> bool
     ensures class { result ≡ classes.is_thing text.now }
     ensures short { IsTrue result → length text.now ≤ 128 }
 {

@@ -12,6 +12,7 @@ mod shadows;
 mod streams;
 mod topic_text;
 
+pub use classes::is_thing;
 pub use faults::{NameFault, TopicFault};
 pub use jobs::{JobsKind, JobsMatch, jobs_topic, match_jobs};
 pub use laws::{

@@ -1,0 +1,9 @@
+mod Offered
+mod Messages
+mod Names
+mod Naming
+mod Steps
+mod TextLines
+mod Writable
+mod Bytes
+mod Lists

@@ -1,0 +1,7 @@
+pub mod Generator
+pub mod Offers
+pub mod ServiceTexts
+pub mod Reading
+pub mod Blocks
+pub mod Asking
+pub mod Answers
