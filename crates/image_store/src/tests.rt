@@ -19,10 +19,9 @@ const TWO_BLOCKS: [u8; 32] =
     *b"\xb9\xa2\xdb\xf1\x9e\x36\x61\xe5\x07\x90\x6c\xe4\xb5\x4e\x4a\x02\x80\xb6\x74\x3e\xbc\x40\x8d\xe6\x70\xa0\x46\x03\xf7\x86\xd3\x50";
 
 /// Data messages of CBOR (RFC 8949) with block 0 of file 0: the payload is `abc`, and `abd`.
-const ABC_BLOCK: [u8; 16] =
-    *b"\xa4\x61\x66\x00\x61\x69\x00\x61\x6c\x03\x61\x70\x43\x61\x62\x63";
-const ABD_BLOCK: [u8; 16] =
-    *b"\xa4\x61\x66\x00\x61\x69\x00\x61\x6c\x03\x61\x70\x43\x61\x62\x64";
+const ABC_BLOCK: [u8; 16] = *b"\xa4\x61\x66\x00\x61\x69\x00\x61\x6c\x03\x61\x70\x43\x61\x62\x63";
+
+const ABD_BLOCK: [u8; 16] = *b"\xa4\x61\x66\x00\x61\x69\x00\x61\x6c\x03\x61\x70\x43\x61\x62\x64";
 
 /// A whole update to the image `abc`: whether it was accepted.
 fn update<B: Bank>(alloc: Global, bank: &mut B, magic: [u8; 2]) -> Result<bool, PutFault> {
@@ -141,7 +140,10 @@ fn the_block_of_a_message_is_put_and_judged(rt: HostRuntime) -> Result<(), Fault
         );
         let mut bank = MemoryBank::new(alloc, Vec::new(alloc));
         let mut writer = Writer::new(alloc, &mut bank, 0, 3, 256, ABC)?;
-        assert_eq!(rt; writer.put(&mut bank, 0, 0, payload.as_slice()), Ok(Put::New));
+        assert_eq!(rt;
+            writer.put(&mut bank, 0, 0, payload.as_slice()),
+            Ok(Put::New)
+        );
         assert_eq!(rt; writer.put(&mut bank, 0, 0, b"abc"), Ok(Put::Again));
         assert_eq!(rt; writer.finish(&mut bank), Ok(verdict));
         assert_eq!(rt; bank.testing().is_some(), verdict == Verdict::Testing);

@@ -1,0 +1,5 @@
+pub mod Sends
+pub mod Entered
+pub mod Hands
+pub mod Passes
+pub mod Starts

@@ -1,0 +1,12 @@
+//! An agent of one task against a tape: a script's requests and a broker's bytes give the journal, round by round.
+#![tactic(auto)]
+
+mod notes;
+mod replayed;
+mod run;
+mod wire;
+
+pub use replayed::{Replayed, replay};
+
+#[cfg(test)]
+mod tests;
