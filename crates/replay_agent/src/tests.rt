@@ -1,7 +1,10 @@
 //! Replays, by their journals' texts, which were worked out by hand from the table.
 
+ghost use Rattle.std.specs.List.{AllByRecursion};
+ghost use Rattle.agent_journal.specs.Parts.{IsSoundEntry};
+
 use super::*;
-use agent_journal::{Setup, write_entry};
+use agent_journal::{Entry, Setup, write_entry};
 use agent_link::MemSink;
 use agent_script::read_script;
 use broker_tape::read_tape;
@@ -29,10 +32,14 @@ const USUAL: Options = Options {
 };
 
 /// The journal's text of a script's lines against a tape's, by client `dev`.
+#[tactic(auto, using(crate::proofs::ReadLines::read_script_valid), unfolding(agent_journal::specs::Setups::is_client))]
 fn journal(alloc: Global, options: Options, lines: &str, tape: &str) -> Result<Vec<u8>, Fail> {
     let mut text = String::from_str(alloc, "tasks 1\n")?;
     text.push_str(lines)?;
     let (script, _) = read_script(alloc, text.as_bytes())?;
+    if script.tasks != 1 || script.lines.len() > 1_000 {
+        return Err(Fail::new("a test's script is short, and of one task"));
+    }
     let setup = Setup {
         to: Text::from_str(alloc, "")?,
         client: Text::from_str(alloc, "dev")?,
@@ -47,8 +54,14 @@ fn journal(alloc: Global, options: Options, lines: &str, tape: &str) -> Result<V
     } else {
         replay::<20, 20, 32>(alloc, setup, options.tick, &script, tape)?
     };
+    text_of(alloc, replayed.journal.as_slice())
+}
+
+fn text_of(alloc: Global, journal: &[Entry]) -> Result<Vec<u8>, Fail>
+    requires { AllByRecursion IsSoundEntry journal.now }
+{
     let mut sink = MemSink::new(alloc, Vec::new(alloc));
-    for entry in replayed.journal.as_slice() {
+    for entry in journal {
         write_entry(&mut sink, entry)?;
     }
     Ok(Vec::from_slice(alloc, sink.bytes())?)
