@@ -14,5 +14,7 @@ pub mod Takes
 pub mod Breaks
 pub mod Table
 pub mod Histories
+pub mod Ties
 pub mod Worked
 pub mod Laws
+pub mod Promises

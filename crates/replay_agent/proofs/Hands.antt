@@ -4,7 +4,8 @@ use Rattle.mqtt_packet.specs.declared.splitter.Next.{Next}
 use Rattle.mqtt_packet.specs.Splitting.{Kept}
 use Rattle.mqtt_packet.specs.Steps.{next_of}
 use Rattle.replay_rounds.specs.World.{World, phase_in}
-use Rattle.replay_rounds.specs.Receiving.{listens, handed, hands}
+use Rattle.agent_table.specs.Ties.{listens}
+use Rattle.replay_rounds.specs.Receiving.{handed, hands}
 
 one_of : (most turn : ℕ) → turn < most → most - turn ≡ suc (most - (turn + 1))
 one_of most turn within = omega arith

@@ -1,12 +1,11 @@
 -- What is taken, and behind it what the script still asks, is what it asks.
-use Rattle.std.proofs.Common.{◌≡◌, ◌⊎◌, ℕ, zero, suc, ◌+◌, ◌≤◌, Bool, true, false, cond, List, [], ◌∷◌, ◌++◌, length, take, Option, Some, None, is_some, refl, sym, ap, ◌∙◌, subst, arith, append_assoc, append-nil, inl, inr}
-use Rattle.std.specs.Prelude.{◌&&◌, ◌||◌, ◌==◌, nat_le, nat_eq}
+use Rattle.std.proofs.Common.{◌≡◌, ℕ, ◌+◌, ◌≤◌, Bool, true, false, cond, List, [], ◌∷◌, ◌++◌, length, take, Option, Some, None, is_some, refl, sym, ap, ◌∙◌, subst, arith, append_assoc, append-nil, inl, inr}
+use Rattle.std.specs.Prelude.{◌&&◌, ◌||◌, nat_le, nat_eq}
 use Rattle.std.specs.List.{AllByRecursion}
 use Rattle.mqtt_packet.specs.declared.packet.Packet.{Packet}
 use Rattle.mqtt_packet.specs.Steps.{fed_to}
 use Rattle.agent_link.specs.declared.link.Heard.{Heard}
 use Rattle.agent_link.specs.declared.link.Heard.TheVariants as heard
-use Rattle.agent_link.specs.Clocks.{step_reading, after_reading}
 use Rattle.agent_link.specs.Wires.{onto_last}
 use Rattle.broker_tape.specs.declared.tape.Item.{Item}
 use Rattle.broker_tape.specs.Playing.{opens, room_at, hears, present}
@@ -22,7 +21,7 @@ use Rattle.agent_journal.specs.declared.setup.Phase.{Phase}
 use Rattle.agent_journal.specs.declared.setup.Phase.TheVariants.{Down, Opening, Up, Spilled, Off}
 use Rattle.agent_journal.specs.Endings.{is_off}
 use Rattle.agent_journal.specs.Projections.{requests_of, request_in}
-use Rattle.agent_journal.specs.Readings.{takes_of, takes_by as takes_cause, has_left, leaves_by, is_leave, pending_of}
+use Rattle.agent_journal.specs.Readings.{takes_of, takes_by as takes_cause, has_left, leaves_by, is_leave}
 use Rattle.agent_journal.specs.Requests.{is_valid}
 use Rattle.agent_journal.specs.Scripts.{asked_by, asked_in}
 use Rattle.agent_journal.specs.Wires.{sent_in}
@@ -30,15 +29,15 @@ use Rattle.agent_table.specs.Histories.{readings, due_by}
 use Rattle.agent_table.specs.Readings.{at_most}
 use Rattle.agent_table.specs.Rows.{Row}
 use Rattle.replay_rounds.specs.Asked.{IsValidLine, IsValidStep, leave_of, taken_and_left}
-use Rattle.replay_rounds.specs.World.{World, phase_in, row_in, shut}
-use Rattle.replay_rounds.specs.Entering.{entry, noted, onto_wire, sends, entered, entered_by}
+use Rattle.replay_rounds.specs.World.{World, phase_in, row_in}
+use Rattle.replay_rounds.specs.Entering.{entry, noted, entered, entered_by}
 use Rattle.replay_rounds.specs.Receiving.{hands, idles, received_by, receives}
 use Rattle.replay_rounds.specs.Lines.{Told, passes, passes_step, submits, is_none_open, takes_step, takes_by, takes, told_up, told_off, ends_step, ends_by, ends}
-use Rattle.replay_rounds.specs.Rounds.{fresh, opened_by, opening, acts_in, acts_by, acts, round, has_ended, after, begun}
+use Rattle.replay_rounds.specs.Rounds.{fresh, opened_by, opening, acts_in, acts_by, acts, has_ended}
 use Rattle.replay_rounds.proofs.Dues.{NoneDue, none_due, found_by, IsDue, one_of}
 use Rattle.replay_rounds.proofs.Kept.{IsCarried, noted_on, sends_on, entered_on, hands_on, idles_on}
 use Rattle.replay_rounds.proofs.Moments.{IsTimely}
-use Rattle.replay_rounds.proofs.Takes.{Passed, passed, phase_same, timely_passed, due_moves, not_left, none_open}
+use Rattle.replay_rounds.proofs.Takes.{passed, phase_same, timely_passed, due_moves, not_left, none_open}
 use Rattle.replay_rounds.proofs.TakeRows.{taken_up, taken_off}
 
 -- ---- Entries that take nothing

@@ -1,5 +1,5 @@
 -- A replay takes what its script asks.
-use Rattle.std.proofs.Common.{◌≡◌, ℕ, zero, suc, ◌+◌, ◌≤◌, Bool, true, false, cond, List, [], ◌∷◌, ◌++◌, length, Option, Some, None, is_some, refl, sym, ap, ◌∙◌, subst, arith, append-nil, length-append}
+use Rattle.std.proofs.Common.{◌≡◌, ℕ, zero, suc, ◌+◌, ◌≤◌, Bool, true, false, cond, List, [], ◌∷◌, ◌++◌, length, Option, Some, None, is_some, refl, sym, ap, ◌∙◌, arith, append-nil, length-append}
 use Rattle.std.specs.Prelude.{◌&&◌, nat_eq}
 use Rattle.std.specs.List.{AllByRecursion}
 use Rattle.agent_link.specs.Clocks.{after_reading}
@@ -27,7 +27,6 @@ use Rattle.replay_rounds.specs.Endings.{ending_of}
 use Rattle.replay_rounds.proofs.Asked.{IsAsking, GoesOn, acts_go_on, none_asked}
 use Rattle.replay_rounds.proofs.Ends.{IsSteady, round_steady, begun_steady, next_time, replays_end}
 use Rattle.replay_rounds.proofs.Moments.{timely_kept}
-use Rattle.replay_rounds.proofs.Stays.{after_of}
 
 -- a round takes what is asked for
 pub round_goes_on : (w : World) → IsSteady w → IsAsking w → has_ended w ≡ false → GoesOn w (round w)

@@ -7,7 +7,7 @@ use Rattle.agent_journal.specs.declared.entry.Why.TheVariants.{KeepAlive, InFull
 use Rattle.agent_journal.specs.declared.entry.Entry.{Entry}
 use Rattle.agent_journal.specs.declared.effect.Effect.TheVariants as f
 use Rattle.agent_journal.specs.declared.setup.Phase.{Phase}
-use Rattle.agent_journal.specs.declared.setup.Phase.TheVariants.{Down, Opening, Up, Spilled, Off}
+use Rattle.agent_journal.specs.declared.setup.Phase.TheVariants.{Down, Up, Off}
 use Rattle.agent_journal.specs.Readings.{breaks_of}
 use Rattle.agent_table.specs.Breaks.{is_absent}
 use Rattle.agent_table.specs.Histories.{readings, due_by}

@@ -1,5 +1,5 @@
 -- A replay ends, and further rounds than it takes change nothing.
-use Rattle.std.proofs.Common.{◌≡◌, ℕ, zero, suc, ◌+◌, ◌-◌, ◌*◌, ◌^◌, ◌<◌, ◌≤◌, min, Bool, true, false, cond, List, [], Option, Some, None, is_some, refl, sym, ap, ◌∙◌, subst, arith, inl, inr}
+use Rattle.std.proofs.Common.{◌≡◌, ℕ, zero, suc, ◌+◌, ◌-◌, ◌*◌, ◌^◌, ◌<◌, ◌≤◌, min, Bool, true, false, cond, List, Option, Some, None, is_some, refl, sym, ap, ◌∙◌, subst, arith, inl}
 use Rattle.std.specs.Prelude.{◌&&◌}
 use Rattle.std.proofs.Math.Nat.{mul-le-mul_right}
 use Rattle.agent_link.specs.Clocks.{Stepping, step_reading, after_reading}
@@ -61,7 +61,7 @@ later clock small = reads_more clock.step clock.calls (min (clock.calls + 1) (2 
 timely_later : (now next : ℕ) (w : World) → now ≤ next → IsTimely now w → IsTimely next w
 timely_later now next w less h = record { time = omega (arith, less, h.time); one = h.one; fits = h.fits }
 
-round_fewer : (w : World) → IsSteady w → has_ended w ≡ false → Fewer (record w { clock = after_reading w.clock }) (round w)
+pub round_fewer : (w : World) → IsSteady w → has_ended w ≡ false → Fewer (record w { clock = after_reading w.clock }) (round w)
 round_fewer w h going = let u = record w { clock = after_reading w.clock } in acts_fewer (next_time w) u ((timely_kept (next_time w)).others w u refl refl refl h.timely) going
 
 pub round_less : (w : World) → IsSteady w → has_ended w ≡ false → bound (round w) < bound w

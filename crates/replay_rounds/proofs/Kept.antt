@@ -1,5 +1,5 @@
 -- What each entry keeps, a round keeps: a property of the setup, the sizes and the past is followed through a round.
-use Rattle.std.proofs.Common.{◌≡◌, ℕ, zero, suc, ◌+◌, ◌<◌, Bool, true, false, cond, List, [], ◌∷◌, ◌++◌, length, take, Option, Some, None, refl, ap}
+use Rattle.std.proofs.Common.{◌≡◌, ℕ, zero, suc, ◌+◌, Bool, true, false, cond, List, [], ◌∷◌, ◌++◌, length, take, Option, Some, None, refl}
 use Rattle.std.specs.Prelude.{nat_le, nat_lt, ◌||◌}
 use Rattle.mqtt_packet.specs.declared.packet.Packet.{Packet}
 use Rattle.mqtt_packet.specs.declared.splitter.Next.{Next}
@@ -25,11 +25,12 @@ use Rattle.agent_journal.specs.Wires.{sent_in}
 use Rattle.agent_table.specs.Histories.{readings, due_by}
 use Rattle.agent_table.specs.Readings.{at_most}
 use Rattle.agent_table.specs.Rows.{Row}
+use Rattle.agent_table.specs.Ties.{listens}
 use Rattle.replay_rounds.specs.World.{World, phase_in, row_in, shut, shut_in, settled}
-use Rattle.replay_rounds.specs.Entering.{entry, noted, noted_by, onto_wire, sends, sends_some, entered, entered_by}
-use Rattle.replay_rounds.specs.Receiving.{listens, handed, hands, hands_all, idles, received_by, receives}
+use Rattle.replay_rounds.specs.Entering.{entry, noted, noted_by, onto_wire, sends, entered, entered_by}
+use Rattle.replay_rounds.specs.Receiving.{handed, hands, idles, received_by, receives}
 use Rattle.replay_rounds.specs.Lines.{Told, passes, passes_step, submits, is_none_open, takes_step, takes_by, takes, told_up, told_off, ends_step, ends_by, ends}
-use Rattle.replay_rounds.specs.Rounds.{fresh, opened_by, opening, acts_in, acts_by, acts, round, has_ended, after}
+use Rattle.replay_rounds.specs.Rounds.{fresh, opened_by, opening, acts_in, acts_by, acts}
 
 -- A property that entries of rows at this time carry on, for such causes, and what is sent and heard leaves. An arrived
 -- packet and a break are such causes.
@@ -101,6 +102,25 @@ module _ (now : ℕ) (Of : Cause → Type 0) (Holds : World → Type 0) (k : IsC
   pub idles_on : (w : World) → Holds w → Holds (idles w now)
   idles_on w h = some_by (nat_le 10000 w.idle) (noted w now (c.Broke why.Idle)) w (noted_on w (c.Broke why.Idle) (k.broke why.Idle) h) h
 
+pub by_choice : (Holds : World → Type 0) (b : Bool) (w v : World) → Holds w → Holds v → Holds (cond b w v)
+by_choice Holds true w v h g = h
+by_choice Holds false w v h g = g
+
+-- what the lines that are passed over leave
+module _ (Holds : World → Type 0) (lines_on : (w : World) (lines : List Line) → Holds w → Holds (record w { lines = lines })) (listened_on : (w : World) (count : ℕ) → Holds w → Holds (record w { listened = count })) where
+  passes_step_with : (told : Told) (w : World) (rest : World → World) (lines : List Line) (step : Step) → ((v : World) → Holds v → Holds (rest v)) → Holds w → Holds (passes_step told w rest lines step)
+  passes_step_with told w rest lines (steps.Do request) goes h = lines_on w lines h
+  passes_step_with told w rest lines (steps.Shadow op name payload) goes h = goes w h
+  passes_step_with told w rest lines (steps.Jobs op job payload) goes h = goes w h
+  passes_step_with told w rest lines steps.Wait goes h = by_choice Holds told.settled (rest w) (record w { lines = lines }) (goes w h) (lines_on w lines h)
+  passes_step_with told w rest lines (steps.Listen count) goes h =
+      by_choice Holds (told.closed || nat_le (w.listened + count) told.messages) (rest (record w { listened = w.listened + count })) (record w { lines = lines })
+      (goes (record w { listened = w.listened + count }) (listened_on w (w.listened + count) h)) (lines_on w lines h)
+
+  pub passes_with : (told : Told) (lines : List Line) (w : World) → Holds w → Holds (passes told lines w)
+  passes_with told [] w h = lines_on w [] h
+  passes_with told (line ∷ lines) w h = passes_step_with told w (passes told lines) (line ∷ lines) line.step (passes_with told lines) h
+
 -- A property of the setup, the sizes and the past that entries of rows at this time carry on.
 pub record IsKept (now : ℕ) (Holds : World → Type 0) : Type 1 where
   pub entry_on : (w : World) (cause : Cause) (found : Row) → row_in w now cause ≡ Some found → Holds w → Holds (record w { past = entry now cause found ∷ w.past })
@@ -125,10 +145,6 @@ module _ (now : ℕ) (Holds : World → Type 0) (k : IsKept now Holds) where
   notes : (w : World) (cause : Cause) → Holds w → Holds (noted w now cause)
   notes w cause h = noted_on now Any Holds (carried now Holds k) w cause tt h
 
-  pub by_choice : (b : Bool) (w v : World) → Holds w → Holds v → Holds (cond b w v)
-  by_choice true w v h g = h
-  by_choice false w v h g = g
-
   received_on : (w : World) (bytes : List ℕ) (answer : Option Heard × List Item) → Holds w → Holds (received_by w now bytes answer)
   received_on w bytes (Some (heard.Bytes n), rest) h =
       let v = record w { items = rest; given = onto_last w.given (take n bytes); stream = fed_to w.stream (take n bytes); idle = 0 } in
@@ -143,18 +159,8 @@ module _ (now : ℕ) (Holds : World → Type 0) (k : IsKept now Holds) where
 
   -- ---- Lines
 
-  passes_step_on : (told : Told) (w : World) (rest : World → World) (lines : List Line) (step : Step) → ((v : World) → Holds v → Holds (rest v)) → Holds w → Holds (passes_step told w rest lines step)
-  passes_step_on told w rest lines (steps.Do request) goes h = k.others w (record w { lines = lines }) refl refl refl h
-  passes_step_on told w rest lines (steps.Shadow op name payload) goes h = goes w h
-  passes_step_on told w rest lines (steps.Jobs op job payload) goes h = goes w h
-  passes_step_on told w rest lines steps.Wait goes h = by_choice told.settled (rest w) (record w { lines = lines }) (goes w h) (k.others w (record w { lines = lines }) refl refl refl h)
-  passes_step_on told w rest lines (steps.Listen count) goes h =
-      by_choice (told.closed || nat_le (w.listened + count) told.messages) (rest (record w { listened = w.listened + count })) (record w { lines = lines })
-      (goes (record w { listened = w.listened + count }) (k.others w (record w { listened = w.listened + count }) refl refl refl h)) (k.others w (record w { lines = lines }) refl refl refl h)
-
   passes_on : (told : Told) (lines : List Line) (w : World) → Holds w → Holds (passes told lines w)
-  passes_on told [] w h = k.others w (record w { lines = [] }) refl refl refl h
-  passes_on told (line ∷ lines) w h = passes_step_on told w (passes told lines) (line ∷ lines) line.step (passes_on told lines) h
+  passes_on told lines w h = passes_with Holds (λ v others g. k.others v (record v { lines = others }) refl refl refl g) (λ v count g. k.others v (record v { listened = count }) refl refl refl g) told lines w h
 
   takes_step_on : (w : World) (lines : List Line) (step : Step) → Holds w → Holds (takes_step w now lines step)
   takes_step_on w lines (steps.Do request) h = enters (record w { lines = lines }) _ (k.others w (record w { lines = lines }) refl refl refl h)
@@ -164,7 +170,7 @@ module _ (now : ℕ) (Holds : World → Type 0) (k : IsKept now Holds) where
   takes_step_on w lines (steps.Listen count) h = receives_on w h
 
   takes_by_on : (w : World) (lines : List Line) → Holds w → Holds (takes_by w now lines)
-  takes_by_on w [] h = by_choice (is_none_open w) (submits w now requests.Leave) (receives w now) (enters w _ h) (receives_on w h)
+  takes_by_on w [] h = by_choice Holds (is_none_open w) (submits w now requests.Leave) (receives w now) (enters w _ h) (receives_on w h)
   takes_by_on w (line ∷ lines) h = takes_step_on w lines line.step h
 
   takes_on : (w : World) → Holds w → Holds (takes w now)

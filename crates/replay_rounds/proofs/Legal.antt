@@ -1,10 +1,8 @@
 -- A replay's journal is legal.
-use Rattle.std.proofs.Common.{◌≡◌, ℕ, zero, suc, Bool, true, false, cond, Some, refl, ap, ◌∙◌, subst}
+use Rattle.std.proofs.Common.{◌≡◌, ℕ, zero, suc, Bool, true, false, cond, ap, subst}
 use Rattle.agent_link.specs.Clocks.{step_reading, after_reading}
-use Rattle.agent_journal.specs.declared.entry.Cause.{Cause}
 use Rattle.agent_table.specs.Histories.{IsLegalPast, effects_of}
-use Rattle.agent_table.specs.Rows.{Row}
-use Rattle.replay_rounds.specs.World.{World, row_in}
+use Rattle.replay_rounds.specs.World.{World}
 use Rattle.replay_rounds.specs.Rounds.{round, has_ended, after}
 use Rattle.replay_rounds.proofs.Kept.{IsKept, acts_on}
 

@@ -13,3 +13,16 @@ pub mod TakeRows
 pub mod Asked
 pub mod AskedAll
 pub mod Stays
+pub mod Wires
+pub mod Sends
+pub mod Seen
+pub mod Wired
+pub mod Heard
+pub mod Listening
+pub mod Handed
+pub mod Given
+pub mod Tied
+pub mod TiedRounds
+pub mod Times
+pub mod TiedAll
+pub mod Histories

@@ -1,5 +1,5 @@
 -- What holds at every moment of a replay: time doesn't fall, and breaks fit the phase.
-use Rattle.std.proofs.Common.{◌≡◌, ◌⊎◌, ℕ, ◌+◌, ◌≤◌, Bool, true, false, cond, List, [], ◌∷◌, length, take, Option, Some, None, refl, sym, ap, ◌∙◌, subst, arith, inl, inr}
+use Rattle.std.proofs.Common.{◌≡◌, ◌⊎◌, ℕ, ◌≤◌, Bool, true, false, cond, List, [], ◌∷◌, length, take, Option, Some, None, refl, sym, ap, ◌∙◌, subst, arith, inl, inr}
 use Rattle.std.specs.Prelude.{nat_lt}
 use Rattle.broker_tape.specs.Playing.{fitting}
 use Rattle.agent_journal.specs.declared.entry.Cause.{Cause}
@@ -13,7 +13,7 @@ use Rattle.agent_journal.specs.Wires.{sent_in}
 use Rattle.agent_table.specs.Histories.{phase_by, phase_of, readings}
 use Rattle.agent_table.specs.Rows.{Row}
 use Rattle.replay_rounds.specs.World.{World, phase_in, row_in, shut_in, settled}
-use Rattle.replay_rounds.specs.Entering.{entry, noted, noted_by, onto_wire, sends, sends_some, entered, entered_by}
+use Rattle.replay_rounds.specs.Entering.{entry, noted, noted_by, onto_wire, sends, entered, entered_by}
 use Rattle.replay_rounds.proofs.Kept.{IsKept}
 use Rattle.replay_rounds.proofs.Rows.{Within, row_fits, in_time, fault_leads, fault_phase}
 

@@ -1,12 +1,11 @@
 -- An opening leaves fewer rounds, also one that fails.
-use Rattle.std.proofs.Common.{◌≡◌, ℕ, ◌+◌, ◌-◌, ◌<◌, ◌≤◌, Bool, true, false, cond, List, [], ◌∷◌, ◌++◌, Option, Some, None, is_some, refl, sym, ap, ◌∙◌, subst, arith, inl, inr}
-use Rattle.std.specs.Prelude.{nat_eq, nat_le}
+use Rattle.std.proofs.Common.{◌≡◌, ℕ, ◌+◌, ◌-◌, ◌<◌, ◌≤◌, Bool, true, false, cond, List, [], ◌∷◌, ◌++◌, Some, refl, sym, ap, ◌∙◌, subst, arith, inl, inr}
+use Rattle.std.specs.Prelude.{nat_eq}
 use Rattle.std.proofs.lemmas.Bool.{cases_lt, eq-eqb, le-leb}
 use Rattle.broker_tape.specs.declared.tape.Item.{Item}
 use Rattle.broker_tape.specs.Playing.{opens, room_at}
 use Rattle.agent_journal.specs.declared.entry.Cause.TheVariants as c
 use Rattle.agent_journal.specs.declared.entry.Why.TheVariants as why
-use Rattle.agent_journal.specs.declared.setup.Phase.{Phase}
 use Rattle.agent_journal.specs.declared.setup.Phase.TheVariants.{Down}
 use Rattle.agent_journal.specs.Readings.{breaks_of}
 use Rattle.agent_table.specs.Histories.{readings}
@@ -14,7 +13,7 @@ use Rattle.agent_table.specs.Readings.{at_most}
 use Rattle.agent_table.specs.Rows.{Row}
 use Rattle.agent_table.specs.Sessions.{ping_of}
 use Rattle.replay_rounds.specs.World.{World, phase_in, row_in}
-use Rattle.replay_rounds.specs.Entering.{entry, noted, entered}
+use Rattle.replay_rounds.specs.Entering.{noted, entered}
 use Rattle.replay_rounds.specs.Rounds.{fresh, opened_by, opening}
 use Rattle.replay_rounds.specs.Bound.{weights, phase_weight}
 use Rattle.replay_rounds.proofs.Dues.{NoneDue}
@@ -25,7 +24,7 @@ use Rattle.replay_rounds.proofs.Tamed.{Tamed, tamed, itself, Fewer, by_item, by_
 use Rattle.replay_rounds.proofs.Weights.{begun_less, opens_less}
 
 -- Where nothing is due in Down, another opening may fail.
-may_fail : (now : ℕ) (w : World) → IsTimely now w → NoneDue now w → phase_in w ≡ Down → breaks_of w.past ≤ w.setup.reopen
+pub may_fail : (now : ℕ) (w : World) → IsTimely now w → NoneDue now w → phase_in w ≡ Down → breaks_of w.past ≤ w.setup.reopen
 may_fail now w h due down =
     elim (cases_lt w.setup.reopen (breaks_of w.past)) [
       | inl more ↦ absurd (cc (sym due.gave_up ∙ gave_up_there w.setup w.sizes (readings w.setup w.sizes w.past) now h.time down (last more)))

@@ -1,27 +1,25 @@
 -- A receive leaves fewer rounds.
-use Rattle.std.proofs.Common.{◌≡◌, ◌⊎◌, ℕ, ◌+◌, ◌<◌, ◌≤◌, List, ◌∷◌, length, take, Option, Some, None, refl, sym, ap, ◌∙◌, subst, arith, inl, inr}
+use Rattle.std.proofs.Common.{◌≡◌, ◌⊎◌, ℕ, ◌+◌, ◌≤◌, List, length, take, Option, Some, None, refl, ap, arith, inl, inr}
 use Rattle.mqtt_packet.specs.Steps.{fed_to}
 use Rattle.agent_link.specs.declared.link.Heard.{Heard}
 use Rattle.agent_link.specs.declared.link.Heard.TheVariants as heard
 use Rattle.agent_link.specs.Wires.{onto_last}
 use Rattle.broker_tape.specs.declared.tape.Item.{Item}
-use Rattle.broker_tape.specs.Playing.{hears, present, opens, room_at}
+use Rattle.broker_tape.specs.Playing.{hears, present}
 use Rattle.agent_journal.specs.declared.entry.Cause.TheVariants as c
 use Rattle.agent_journal.specs.declared.entry.Why.TheVariants as why
 use Rattle.agent_journal.specs.declared.setup.Phase.TheVariants.{Down, Opening, Up}
-use Rattle.agent_journal.specs.Readings.{breaks_of}
 use Rattle.agent_table.specs.Effects.{lose_link}
 use Rattle.agent_table.specs.Histories.{readings}
 use Rattle.agent_table.specs.Readings.{at_most}
 use Rattle.agent_table.specs.Rows.{Row}
-use Rattle.agent_table.specs.Sessions.{ping_of}
 use Rattle.replay_rounds.specs.World.{World, phase_in, row_in}
-use Rattle.replay_rounds.specs.Entering.{noted, entered}
+use Rattle.replay_rounds.specs.Entering.{noted}
 use Rattle.replay_rounds.specs.Receiving.{hands, idles, received_by, receives}
-use Rattle.replay_rounds.specs.Bound.{weights, ping_weight, phase_weight}
-use Rattle.replay_rounds.proofs.Kept.{Any, hands_on, idles_on, noted_on, entered_on}
-use Rattle.replay_rounds.proofs.Moments.{IsTimely, noted_phase, noted_past}
-use Rattle.replay_rounds.proofs.Rows.{end_opening, end_up, fault_there}
+use Rattle.replay_rounds.specs.Bound.{weights}
+use Rattle.replay_rounds.proofs.Kept.{Any, hands_on, idles_on, noted_on}
+use Rattle.replay_rounds.proofs.Moments.{IsTimely, noted_phase}
+use Rattle.replay_rounds.proofs.Rows.{end_opening, end_up}
 use Rattle.replay_rounds.proofs.Tamed.{Tamed, tamed, itself, Fewer, by_item, by_phase, rounds_in, down_weighs, opening_weighs, up_weighs}
 use Rattle.replay_rounds.proofs.Weights.{Lowers, hears_less}
 

@@ -1,6 +1,6 @@
 -- Where the table's rows lead, as far as the end of a replay asks.
-use Rattle.std.proofs.Common.{◌≡◌, ℕ, suc, ◌+◌, ◌*◌, ◌≤◌, ◌<◌, ◌⊎◌, Bool, true, false, cond, List, [], ◌∷◌, Option, Some, None, is_some, refl, sym, ap, ◌∙◌, subst, arith, inl, inr}
-use Rattle.std.specs.Prelude.{◌&&◌, ◌==◌, not, nat_lt, nat_le, nat_eq, length}
+use Rattle.std.proofs.Common.{◌≡◌, ℕ, ◌+◌, ◌*◌, ◌≤◌, ◌<◌, ◌⊎◌, Bool, true, false, cond, List, [], ◌∷◌, Option, Some, None, is_some, refl, sym, ap, ◌∙◌, subst, arith, inl, inr}
+use Rattle.std.specs.Prelude.{◌&&◌, ◌==◌, not, nat_lt, nat_le, nat_eq}
 use Rattle.std.proofs.lemmas.Bool.{le-leb, lt-leb, cases_lt}
 use Rattle.mqtt_packet.specs.declared.qos.Qos.{Qos}
 use Rattle.mqtt_packet.specs.declared.qos.Qos.TheVariants.{AtMostOnce, AtLeastOnce, ExactlyOnce}
@@ -17,10 +17,9 @@ use Rattle.agent_journal.specs.declared.effect.Effect.TheVariants as f
 use Rattle.agent_journal.specs.declared.setup.Setup.{Setup}
 use Rattle.agent_journal.specs.declared.setup.Phase.{Phase}
 use Rattle.agent_journal.specs.declared.setup.Phase.TheVariants.{Down, Opening, Up, Spilled, Off}
-use Rattle.agent_journal.specs.Readings.{accepts, is_break, breaks_behind}
-use Rattle.agent_journal.specs.Requests.{is_valid}
+use Rattle.agent_journal.specs.Readings.{accepts, breaks_behind}
 use Rattle.agent_journal.specs.Rows.{all_left, is_none, connect}
-use Rattle.agent_table.specs.Arrivals.{arrived_row, arrived_in, opening_row, up_row}
+use Rattle.agent_table.specs.Arrivals.{arrived_row, arrived_in}
 use Rattle.agent_table.specs.Breaks.{opened_row, broke_row, fault_row, end_row, idle_row, bytes_row, keep_alive_row, in_full_row, gave_up_row, tick_row, finish_row, down, is_past, is_absent}
 use Rattle.agent_table.specs.Readings.{Readings, at_most}
 use Rattle.agent_table.specs.Rows.{Row, to, when, ends}
@@ -72,7 +71,7 @@ Within s breaks Up = breaks ≤ s.reopen
 Within s breaks Spilled = breaks ≤ s.reopen
 Within s breaks Off = Unit {0}
 
-small_reading : (reopen breaks reading : ℕ) → reading ≡ at_most (reopen + 2) breaks → breaks ≤ reopen → reading ≤ reopen
+pub small_reading : (reopen breaks reading : ℕ) → reading ≡ at_most (reopen + 2) breaks → breaks ≤ reopen → reading ≤ reopen
 small_reading reopen breaks reading e few = omega (arith, few, e ∙ ap (λ b. cond b breaks (reopen + 2)) (le-leb breaks (reopen + 2) (omega (arith, few))))
 
 pub fault_leads : (s : Setup) (r : Readings) (found : Row) (phase : Phase) → fault_row s r phase ≡ Some found → found.phase ≡ fault_phase phase

@@ -1,5 +1,5 @@
 -- The agent of a replay stays the same.
-use Rattle.std.proofs.Common.{◌≡◌, ℕ, zero, suc, Bool, true, false, cond, refl, sym, ◌∙◌}
+use Rattle.std.proofs.Common.{◌≡◌, ℕ, zero, suc, Bool, true, false, cond, sym, ◌∙◌}
 use Rattle.agent_link.specs.Clocks.{after_reading}
 use Rattle.agent_journal.specs.declared.setup.Setup.{Setup}
 use Rattle.agent_table.specs.Sizes.{Sizes}

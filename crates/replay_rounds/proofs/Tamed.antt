@@ -1,17 +1,11 @@
 -- What entries and receives leave of a replay: its lines stay, and neither the tape nor the Leave to come grows.
-use Rattle.std.proofs.Common.{◌≡◌, ◌⊎◌, ℕ, ◌+◌, ◌-◌, ◌*◌, ◌<◌, ◌≤◌, Bool, true, false, List, ◌∷◌, length, Option, Some, None, refl, sym, ap, ◌∙◌, subst, arith}
+use Rattle.std.proofs.Common.{◌≡◌, ℕ, ◌+◌, ◌*◌, ◌<◌, ◌≤◌, Bool, true, false, length, Option, Some, None, refl, sym, ap, ◌∙◌, subst, arith}
 use Rattle.std.specs.Prelude.{◌||◌}
-use Rattle.agent_link.specs.Clocks.{Stepping}
-use Rattle.agent_journal.specs.declared.entry.Cause.{Cause}
-use Rattle.agent_journal.specs.declared.script.Line.{Line}
-use Rattle.agent_journal.specs.declared.setup.Setup.{Setup}
 use Rattle.agent_journal.specs.declared.setup.Phase.{Phase}
 use Rattle.agent_journal.specs.declared.setup.Phase.TheVariants.{Down, Opening, Up, Spilled, Off}
 use Rattle.agent_journal.specs.Readings.{has_left, leaves_by, breaks_of}
-use Rattle.agent_table.specs.Rows.{Row}
 use Rattle.agent_table.specs.Sessions.{ping_of}
-use Rattle.replay_rounds.specs.World.{World, phase_in, row_in, shut}
-use Rattle.replay_rounds.specs.Entering.{entry, onto_wire}
+use Rattle.replay_rounds.specs.World.{World, phase_in}
 use Rattle.replay_rounds.specs.Bound.{weights, phase_weight, ping_weight, leave_weight, bound}
 use Rattle.replay_rounds.proofs.Kept.{IsCarried, Any}
 use Rattle.replay_rounds.proofs.Weights.{closed_less, consumed, lowered}

@@ -1,12 +1,12 @@
 -- What a tape still has to give only falls, and at each receive it falls or the connection is at its end.
-use Rattle.std.proofs.Common.{◌≡◌, ◌⊎◌, ℕ, zero, suc, ◌+◌, ◌-◌, ◌*◌, ◌<◌, ◌≤◌, min, Bool, true, false, cond, List, [], ◌∷◌, length, drop, Option, Some, None, refl, sym, ap, ◌∙◌, subst, arith, inl, inr, length-drop}
+use Rattle.std.proofs.Common.{◌≡◌, ◌⊎◌, ℕ, zero, suc, ◌+◌, ◌*◌, ◌<◌, ◌≤◌, min, Bool, true, false, cond, List, [], ◌∷◌, length, Option, Some, refl, ap, ◌∙◌, arith, inl, inr, length-drop}
 use Rattle.std.specs.Prelude.{nat_eq}
 use Rattle.std.proofs.Math.Nat.{mul-le-mul_left, mul-add, mul-one}
 use Rattle.agent_link.specs.declared.link.Heard.{Heard}
 use Rattle.agent_link.specs.declared.link.Heard.TheVariants as heard
 use Rattle.broker_tape.specs.declared.tape.Item.{Item}
 use Rattle.broker_tape.specs.declared.tape.Item.TheVariants as items
-use Rattle.broker_tape.specs.Playing.{is_opening, closed, begins, opens, opens_at, is_used, is_empty, next, hears, hears_at, hears_of}
+use Rattle.broker_tape.specs.Playing.{is_opening, closed, opens, opens_at, is_used, is_empty, next, hears, hears_at, hears_of}
 use Rattle.replay_rounds.specs.Bound.{weight, weights}
 
 by_cond : (b : Bool) (x y : List Item) (n : ℕ) → weights x ≤ n → weights y ≤ n → weights (cond b x y) ≤ n

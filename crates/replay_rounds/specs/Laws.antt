@@ -1,15 +1,22 @@
 -- Laws of replays, each the contract of a function that does nothing.
-use Rattle.std.specs.Prelude.{◌≡◌, ℕ, true, List, [], ◌∷◌, ◌++◌}
+use Rattle.std.specs.Prelude.{◌≡◌, ℕ, true, Some, List, [], ◌∷◌, ◌++◌}
 use Rattle.std.specs.List.{AllByRecursion}
+use Rattle.agent_link.specs.Clocks.{step_readings}
 use Rattle.broker_tape.specs.declared.tape.Item.{Item}
 use Rattle.agent_journal.specs.declared.request.Request.TheVariants as requests
+use Rattle.agent_journal.specs.declared.ending.Ending.{Ending}
 use Rattle.agent_journal.specs.declared.script.Line.{Line}
+use Rattle.agent_journal.specs.declared.script.Script.{Script}
 use Rattle.agent_journal.specs.declared.setup.Setup.{Setup}
 use Rattle.agent_journal.specs.Projections.{requests_of}
-use Rattle.agent_journal.specs.Scripts.{asked_in}
+use Rattle.agent_journal.specs.Scripts.{asked, asked_in}
 use Rattle.agent_table.specs.Histories.{IsLegalPast}
+use Rattle.agent_table.specs.Promises.{IsHistoryOf}
 use Rattle.agent_table.specs.Sizes.{Sizes}
+use Rattle.agent_table.specs.Ties.{IsTied}
 use Rattle.replay_rounds.specs.Asked.{IsValidLine}
+use Rattle.replay_rounds.specs.Endings.{ending_of}
+use Rattle.replay_rounds.specs.Given.{GivesBytes}
 use Rattle.replay_rounds.specs.World.{World}
 use Rattle.replay_rounds.specs.Rounds.{after, begun, has_ended}
 use Rattle.replay_rounds.specs.Bound.{finished}
@@ -28,3 +35,18 @@ abbrev pub ReplaysTakeAll : Type 0
 ReplaysTakeAll =
     (setup : Setup) (sizes : Sizes) (tick : ℕ) (lines : List Line) (items : List Item) → setup.tasks ≡ 1 → AllByRecursion IsValidLine lines
     → requests_of 0 (finished (begun setup sizes tick lines items)).past ≡ asked_in 0 lines ++ requests.Leave ∷ []
+
+-- What a replay has come to: its journal is one legal history of the agent, in which what the script asks stands once and in
+-- its order. It is tied to the link that the tape plays and to a clock that goes on by ticks.
+pub record IsTiedHistory (setup : Setup) (sizes : Sizes) (tick : ℕ) (script : Script) (w : World) : Type 0 where
+  pub history : IsHistoryOf setup sizes (asked script) w.past
+  pub ending : Ending
+  pub ended : ending_of setup sizes w.past ≡ Some ending
+  pub rounds : ℕ
+  pub tied : IsTied setup sizes w.past w.taken w.given (step_readings tick rounds)
+
+-- A replay of one task, whose tape gives bytes, is such a history.
+abbrev pub ReplaysAreHistories : Type 0
+ReplaysAreHistories =
+    (setup : Setup) (sizes : Sizes) (tick : ℕ) (script : Script) (items : List Item) → setup.tasks ≡ 1 → AllByRecursion IsValidLine script.lines → GivesBytes items
+    → IsTiedHistory setup sizes tick script (finished (begun setup sizes tick script.lines items))

@@ -1,5 +1,5 @@
 -- Receives of a replay: what comes is handed in packet by packet.
-use Rattle.std.specs.Prelude.{ℕ, zero, suc, ◌+◌, Bool, true, false, List, length, take, Option, Some, None, if◌then◌else◌, nat_le}
+use Rattle.std.specs.Prelude.{ℕ, zero, suc, ◌+◌, List, length, take, Option, Some, None, if◌then◌else◌, nat_le}
 use Rattle.mqtt_packet.specs.declared.splitter.Next.{Next}
 use Rattle.mqtt_packet.specs.declared.splitter.Next.TheVariants as answers
 use Rattle.mqtt_packet.specs.Splitting.{Kept}
@@ -11,19 +11,10 @@ use Rattle.broker_tape.specs.declared.tape.Item.{Item}
 use Rattle.broker_tape.specs.Playing.{hears, present}
 use Rattle.agent_journal.specs.declared.entry.Cause.TheVariants as c
 use Rattle.agent_journal.specs.declared.entry.Why.TheVariants as why
-use Rattle.agent_journal.specs.declared.setup.Phase.{Phase}
-use Rattle.agent_journal.specs.declared.setup.Phase.TheVariants.{Down, Opening, Up, Spilled, Off}
 use Rattle.agent_table.specs.Readings.{at_most}
+use Rattle.agent_table.specs.Ties.{listens}
 use Rattle.replay_rounds.specs.World.{World, phase_in}
 use Rattle.replay_rounds.specs.Entering.{entered, noted}
-
--- whether packets are handed in
-abbrev pub listens : Phase → Bool
-listens Down = false
-listens Opening = true
-listens Up = true
-listens Spilled = false
-listens Off = false
 
 -- A whole packet is handed in, and then those behind it. What isn't one breaks the connection.
 abbrev pub handed : World → ℕ → (World → World) → Next × Kept → World

@@ -1,5 +1,5 @@
 -- A moment of a replay: plain data. It knows no core, no splitter and no arrays.
-use Rattle.std.specs.Prelude.{ℕ, List, [], Option, Some, None}
+use Rattle.std.specs.Prelude.{ℕ, List, Option, Some}
 use Rattle.mqtt_packet.specs.Splitting.{Kept}
 use Rattle.agent_link.specs.Clocks.{Stepping}
 use Rattle.broker_tape.specs.declared.tape.Item.{Item}

@@ -1,6 +1,6 @@
 //! Laws of replays, each the contract of a function that does nothing.
 
-ghost use Rattle.replay_rounds.specs.Laws.{ReplaysAreLegal, ReplaysEnd, ReplaysTakeAll};
+ghost use Rattle.replay_rounds.specs.Laws.{ReplaysAreHistories, ReplaysAreLegal, ReplaysEnd, ReplaysTakeAll};
 
 /// A replay's journal is legal: each entry is the one that the table gives after those before it.
 #[tactic(auto, using(crate::proofs::Legal::legal_after))]
@@ -18,4 +18,13 @@ pub fn replays_end()
 #[tactic(auto, using(crate::proofs::AskedAll::replays_take_all))]
 pub fn replays_take_all()
     ensures { ReplaysTakeAll }
+{}
+
+/// A replay of one task is one legal history of the agent, in which what the script asks stands once and in its order, each
+/// command has exactly one completion, and each good outcome is earned. It is tied to its link and clock: over all
+/// connections, what was sent are the journal's packets, or a front of them where that connection broke, and what came are
+/// the packets that arrived.
+#[tactic(auto, using(crate::proofs::Histories::replays_are_histories))]
+pub fn replays_are_histories()
+    ensures { ReplaysAreHistories }
 {}

@@ -3,6 +3,7 @@
 ghost use Rattle.std.specs.Prelude.{◌≡◌, ℕ, ◌+◌, List, OnOk};
 ghost use Rattle.agent_journal.specs.declared.script.Line.{Line};
 ghost use Rattle.agent_table.specs.Readings.{at_most};
+ghost use Rattle.agent_table.specs.Ties.{listens};
 ghost use Rattle.replay_rounds.specs.Receiving as receiving;
 
 use crate::run::Run;
@@ -109,7 +110,7 @@ impl Run {
 
 /// Whether packets are handed in.
 fn is_listening(phase: Phase) -> bool
-    ensures { result ≡ receiving.listens phase }
+    ensures { result ≡ listens phase }
 {
     match phase {
         Phase::Opening | Phase::Up => true,

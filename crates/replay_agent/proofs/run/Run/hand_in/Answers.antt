@@ -2,7 +2,8 @@ use Rattle.std.proofs.Common.{◌+◌, ◌-◌, sym, ap, ◌∙◌}
 use Rattle.std.proofs.lemmas.Result.{on_ok_weaker}
 use Rattle.mqtt_packet.specs.declared.splitter.Next.TheVariants as answers
 use Rattle.replay_rounds.specs.World.{World}
-use Rattle.replay_rounds.specs.Receiving.{listens, hands, hands_all}
+use Rattle.agent_table.specs.Ties.{listens}
+use Rattle.replay_rounds.specs.Receiving.{hands, hands_all}
 use Rattle.replay_agent.specs.Runs.{world}
 use Rattle.replay_agent.proofs.Hands.{hands_over, at_turn}
 use Rattle.replay_agent.proofs.run.Run.hand_in.Goals as goal

@@ -1,0 +1,145 @@
+-- What the ties of a journal see of a world, and what an entry leaves of it.
+use Rattle.std.proofs.Common.{◌≡◌, ◌⊎◌, ℕ, ◌+◌, ◌<◌, Bool, true, false, cond, List, [], ◌∷◌, length, take, Option, Some, None, is_some, refl, sym, ap, ◌∙◌, subst, arith, inl, inr}
+use Rattle.std.specs.Prelude.{nat_lt, nat_le}
+use Rattle.std.proofs.lemmas.Bool.{le-leb, ltb-true}
+use Rattle.std.specs.List.{flat_map}
+use Rattle.mqtt_packet.specs.Spelling.{spelling}
+use Rattle.mqtt_packet.specs.Splitting.{Kept as Stream}
+use Rattle.agent_link.specs.Wires.{onto_last}
+use Rattle.broker_tape.specs.Playing.{fitting}
+use Rattle.agent_journal.specs.declared.entry.Cause.{Cause}
+use Rattle.agent_journal.specs.declared.entry.Cause.TheVariants as c
+use Rattle.agent_journal.specs.declared.entry.Entry.{Entry}
+use Rattle.agent_journal.specs.declared.entry.Why.TheVariants as why
+use Rattle.agent_journal.specs.declared.effect.Effect.{Effect}
+use Rattle.agent_journal.specs.declared.setup.Phase.{Phase}
+use Rattle.agent_journal.specs.declared.setup.Phase.TheVariants.{Down, Opening, Up, Spilled, Off}
+use Rattle.agent_journal.specs.declared.setup.Setup.{Setup}
+use Rattle.agent_journal.specs.Readings.{accepts, breaks_behind, breaks_of, is_break}
+use Rattle.agent_journal.specs.Wires.{sends, sent_in}
+use Rattle.agent_table.specs.Breaks.{fault_row}
+use Rattle.agent_table.specs.Histories.{phase_of, readings, row}
+use Rattle.agent_table.specs.Readings.{Readings, at_most}
+use Rattle.agent_table.specs.Rows.{Row}
+use Rattle.agent_table.specs.Sends.{has_send, is_some_packet}
+use Rattle.agent_table.specs.Sizes.{Sizes}
+use Rattle.replay_rounds.specs.World.{World, phase_in, row_in, shut_in, settled}
+use Rattle.replay_rounds.specs.Entering.{entry, noted, noted_by, onto_wire, sends_some, entered, entered_by}
+use Rattle.replay_rounds.specs.Entering as entering
+use Rattle.replay_rounds.proofs.Moments.{with_row, phase_row}
+use Rattle.replay_rounds.proofs.Rows.{timely, in_time}
+use Rattle.replay_rounds.proofs.Wires.{onto_nothing}
+use Rattle.replay_rounds.proofs.Sends.{Silent, nothing, down_mild}
+
+pub record Seen : Type 0 where
+  pub setup : Setup
+  pub sizes : Sizes
+  pub past : List Entry
+  pub taken : List (List ℕ)
+  pub given : List (List ℕ)
+  pub stream : Stream
+
+abbrev pub seen : World → Seen
+seen w = record { setup = w.setup; sizes = w.sizes; past = w.past; taken = w.taken; given = w.given; stream = w.stream }
+
+abbrev pub phase_seen : Seen → Phase
+phase_seen v = phase_of v.setup v.sizes v.past
+
+abbrev pub row_seen : Seen → ℕ → Cause → Option Row
+row_seen v at cause = row v.setup v.sizes v.past at cause
+
+-- an entry more, and bytes more on the present connection
+abbrev pub with_entry : Seen → ℕ → Cause → Row → Seen
+with_entry v at cause found = record v { past = entry at cause found ∷ v.past }
+
+abbrev pub with_bytes : Seen → List ℕ → Seen
+with_bytes v bytes = record v { taken = onto_last v.taken bytes }
+
+-- ---- What isn't seen
+
+settled_in : (P : Seen → Type 0) (w : World) (phase : Phase) → P (seen w) → P (seen (shut_in w phase))
+settled_in P w Down h = h
+settled_in P w Opening h = h
+settled_in P w Up h = h
+settled_in P w Spilled h = h
+settled_in P w Off h = h
+
+settles : (P : Seen → Type 0) (w : World) → P (seen w) → P (seen (settled w))
+settles P w h = settled_in P w (phase_in w) h
+
+noted_of : (P : Seen → Type 0) (now : ℕ) (w : World) (cause : Cause) (r : Option Row) → row_in w now cause ≡ r → (r ≡ None → P (seen w)) → ((found : Row) → r ≡ Some found → P (with_entry (seen w) now cause found))
+    → P (seen (noted_by w now cause r))
+noted_of P now w cause None e none some = none refl
+noted_of P now w cause (Some found) e none some = settles P (record w { past = entry now cause found ∷ w.past }) (some found refl)
+
+pub noted_seen : (P : Seen → Type 0) (now : ℕ) (w : World) (cause : Cause) → (row_in w now cause ≡ None → P (seen w)) → ((found : Row) → row_in w now cause ≡ Some found → P (with_entry (seen w) now cause found))
+    → P (seen (noted w now cause))
+noted_seen P now w cause none some = noted_of P now w cause (row_in w now cause) refl none some
+
+-- ---- Behind an entry that sends, a fault has a row
+
+send_there : (effects : List Effect) (b : ℕ) (bytes : List ℕ) → sent_in effects ≡ b ∷ bytes → has_send effects ≡ true
+send_there effects b bytes e = by (sends effects) e
+  where
+    by : (packets : _) → flat_map spelling packets ≡ b ∷ bytes → is_some_packet packets ≡ true
+    by [] e = absurd (cc e)
+    by (packet ∷ packets) e = refl
+
+no_breaks : (cause : Cause) (breaks : ℕ) → accepts cause ≡ true → breaks_behind cause breaks ≡ 0
+no_breaks cause breaks e = ap (λ b. cond b 0 (cond (is_break cause) (breaks + 1) breaks)) e
+
+few_breaks : (reopen : ℕ) → nat_le (at_most (reopen + 2) 0) reopen ≡ true
+few_breaks reopen = ap (λ b. nat_le (cond b 0 (reopen + 2)) reopen) (le-leb 0 (reopen + 2) (omega arith)) ∙ le-leb 0 reopen (omega arith)
+
+module _ (now : ℕ) (w : World) (cause : Cause) (found : Row) (e : row_in w now cause ≡ Some found) where
+  abbrev pub behind : World
+  behind = with_row w now cause found
+
+  abbrev r : Readings
+  r = readings behind.setup behind.sizes behind.past
+
+  may_open : found.phase ≡ Down → (b : ℕ) (bytes : List ℕ) → sent_in found.effects ≡ b ∷ bytes → nat_le r.breaks behind.setup.reopen ≡ true
+  may_open is b bytes some = by (down_mild w.setup w.sizes (readings w.setup w.sizes w.past) now cause found (in_time w.setup w.sizes (readings w.setup w.sizes w.past) now cause found e) is)
+    where
+      by : Silent found.effects ⊎ (accepts cause ≡ true) → nat_le r.breaks behind.setup.reopen ≡ true
+      by (inl silent) = absurd (cc (sym (nothing found.effects silent) ∙ some))
+      by (inr accepted) = ap (λ n. nat_le (at_most (behind.setup.reopen + 2) n) behind.setup.reopen) (no_breaks cause (breaks_of w.past) accepted) ∙ few_breaks behind.setup.reopen
+
+  faults_in : (phase : Phase) → found.phase ≡ phase → (b : ℕ) (bytes : List ℕ) → sent_in found.effects ≡ b ∷ bytes → is_some (fault_row behind.setup r phase) ≡ true
+  unfolding fault_row
+  faults_in Down is b bytes some = rw (may_open is b bytes some) refl
+  faults_in Opening is b bytes some = refl
+  faults_in Up is b bytes some = refl
+  faults_in Spilled is b bytes some = refl
+  faults_in Off is b bytes some = rw (send_there found.effects b bytes some) refl
+
+  pub faults_behind : (b : ℕ) (bytes : List ℕ) → sent_in found.effects ≡ b ∷ bytes → is_some (row_in behind now (c.Broke why.Fault)) ≡ true
+  faults_behind b bytes some =
+      ap is_some (timely behind.setup behind.sizes r now (c.Broke why.Fault) (omega arith)) ∙ ap (λ phase. is_some (fault_row behind.setup r phase)) (phase_row now w cause found e) ∙ faults_in found.phase refl b bytes some
+
+  -- ---- What an entry leaves: all of its packets on the wire, or less and a fault
+
+  module _ (P : Seen → Type 0)
+      (whole : P (with_bytes (with_entry (seen w) now cause found) (sent_in found.effects)))
+      (part : (k : ℕ) (second : Row) → k < length (sent_in found.effects) → row_in behind now (c.Broke why.Fault) ≡ Some second
+      → P (with_entry (with_bytes (with_entry (seen w) now cause found) (take k (sent_in found.effects))) now (c.Broke why.Fault) second)) where
+    none_there : (b : ℕ) (bytes : List ℕ) → sent_in found.effects ≡ b ∷ bytes → row_in behind now (c.Broke why.Fault) ≡ None → ⊥
+    none_there b bytes some none = cc (sym (faults_behind b bytes some) ∙ ap is_some none)
+
+    some_sent : (less : Bool) (fits b : ℕ) (bytes : List ℕ) → sent_in found.effects ≡ b ∷ bytes → nat_lt fits (length (b ∷ bytes)) ≡ less
+        → P (seen (cond less (noted (onto_wire (record behind { idle = 0 }) (take fits (b ∷ bytes))) now (c.Broke why.Fault)) (settled (onto_wire (record behind { idle = 0 }) (b ∷ bytes)))))
+    some_sent true fits b bytes some less =
+        noted_seen P now (onto_wire (record behind { idle = 0 }) (take fits (b ∷ bytes))) (c.Broke why.Fault) (λ none. absurd (none_there b bytes some none))
+        (λ second is.
+        subst (λ bs. P (with_entry (with_bytes (with_entry (seen w) now cause found) (take fits bs)) now (c.Broke why.Fault) second)) some
+        (part fits second (subst (λ bs. fits < length bs) (sym some) (ltb-true fits (length (b ∷ bytes)) less)) is))
+    some_sent false fits b bytes some less =
+        settles P (onto_wire (record behind { idle = 0 }) (b ∷ bytes)) (subst (λ bs. P (with_bytes (with_entry (seen w) now cause found) bs)) some whole)
+
+    sent_by : (bytes : List ℕ) → sent_in found.effects ≡ bytes → P (seen (entering.sends behind now bytes))
+    sent_by [] none =
+        settles P behind (subst (λ ws. P (record (with_entry (seen w) now cause found) { taken = ws })) (ap (onto_last w.taken) none ∙ onto_nothing w.taken) whole)
+    sent_by (b ∷ bytes) some = some_sent (nat_lt (fitting w.room (length (b ∷ bytes))) (length (b ∷ bytes))) (fitting w.room (length (b ∷ bytes))) b bytes some refl
+
+    pub entered_seen : P (seen (entered w now cause))
+    entered_seen = subst (λ q. P (seen (entered_by w now cause q))) (sym e) (sent_by (sent_in found.effects) refl)
