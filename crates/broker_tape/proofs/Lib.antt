@@ -1,2 +1,5 @@
 pub mod Tapes
 pub mod Plays
+pub mod Pairs
+pub mod Readings
+pub mod ReadTapes

@@ -1,12 +1,10 @@
 -- Steps of a link that a tape plays.
-use Rattle.std.proofs.Common.{◌≡◌, ℕ, zero, suc, ◌+◌, ◌-◌, ◌<◌, ◌≤◌, min, List, [], ◌∷◌, ◌++◌, length, drop, get_or, Option, Some, None, Bool, true, false, refl, sym, ap, ◌∙◌, subst, arith, length-drop, inl, inr}
+use Rattle.std.proofs.Common.{◌≡◌, ℕ, zero, suc, ◌+◌, ◌-◌, ◌<◌, ◌≤◌, List, [], ◌∷◌, ◌++◌, length, drop, get_or, true, false, refl, sym, ap, ◌∙◌, arith, inl, inr}
 use Rattle.std.specs.Prelude.{nat_le, nat_eq}
 use Rattle.std.proofs.lemmas.Bool.{le-leb, lt-leb, cases_lt}
-use Rattle.std.proofs.lemmas.List.{drop-drop, drop_more, drop_all}
+use Rattle.std.proofs.lemmas.List.{drop_more, drop_all}
 use Rattle.broker_tape.specs.declared.tape.Item.{Item}
 use Rattle.broker_tape.specs.declared.tape.Item.TheVariants as items
-use Rattle.agent_link.specs.declared.link.Heard.{Heard}
-use Rattle.agent_link.specs.declared.link.Heard.TheVariants as heard
 use Rattle.agent_link.specs.Wires.{onto_last}
 use Rattle.broker_tape.specs.Playing.{is_empty, is_opening, closed, begins, opens, opens_at, is_used, next, hears, hears_at, hears_of, played_to, advance}
 

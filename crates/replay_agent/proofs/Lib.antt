@@ -3,4 +3,4 @@ pub mod Entered
 pub mod Hands
 pub mod Passes
 pub mod Starts
-mod ReadLines
+pub mod ReadLines

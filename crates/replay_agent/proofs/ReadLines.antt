@@ -22,24 +22,7 @@ use Rattle.agent_script.specs.Requests.{qos_of, asks_in, filters_in, publish_of,
 use Rattle.agent_script.specs.Scripts.{Read, lines_from, line_or_number, is_tape, tasks_of, script_of, script_from, script_with, script_behind}
 use Rattle.agent_script.specs.Steps.{does, named, short_payload, shadow_op, shadow_name, line_with, all_jobs_of, one_job_of, job_step, jobs_of, listen_of, shadow_of, word_of, words_of, by_words, step_of, task_of, line_of}
 use Rattle.replay_rounds.specs.Asked.{IsValidStep, IsValidLine}
-
--- whatever is read has the property
-record AllOf {A : Type 0} (P : A → Type 0) (o : Option A) : Type 0 where
-  each : (x : A) → o ≡ Some x → P x
-
-nothing : {A : Type 0} (P : A → Type 0) → AllOf P None
-nothing P = record { each = λ x e. absurd (cc e) }
-
-given : {A : Type 0} (P : A → Type 0) (x : A) → P x → AllOf P (Some x)
-given P x h = record { each = λ y e. let same : x ≡ y = cc e in subst P same h }
-
-behind : {A B : Type 0} (P : B → Type 0) (o : Option A) (next : A → Option B) → ((x : A) → AllOf P (next x)) → AllOf P (o >>= next)
-behind P (Some x) next h = h x
-behind P None next h = nothing P
-
-either : {A : Type 0} (P : A → Type 0) (b : Bool) (x y : Option A) → AllOf P x → AllOf P y → AllOf P (cond b x y)
-either P true x y h k = h
-either P false x y h k = k
+use Rattle.broker_tape.proofs.Readings.{AllOf, nothing, given, behind, either}
 
 -- ---- Requests
 

@@ -15,7 +15,7 @@ ghost use Rattle.replay_agent.specs.Runs.{sizes_of};
 use crate::run::Run;
 use agent_core::Core;
 use agent_journal::{Ending, Journal, Script, Setup};
-use broker_tape::Tape;
+use broker_tape::{Tape, TapeLink};
 use mqtt_packet::NoMemory;
 use std::alloc::Global;
 
@@ -28,6 +28,8 @@ pub struct Replayed {
     pub messages: u128,
     /// How the agent ended.
     pub ending: Ending,
+    /// What each connection took and gave.
+    pub link: TapeLink,
 }
 
 /// Replays a script of one task against a tape, a round each `tick` milliseconds, up to the end. The script has no
@@ -45,6 +47,9 @@ pub fn replay<const ACKS: usize, const IN: usize, const ROUTES: usize>(
     requires lines { AllByRecursion IsValidLine script.now.lines }
     requires few { length script.now.lines ≤ 4000000000 }
     ensures journal { IfOk result (λ r. reverse r.journal ≡ (finished (begun setup (sizes_of ACKS IN ROUTES) tick script.now.lines tape)).past) }
+    // The link is one that the tape plays.
+    ensures took { IfOk result (λ r. r.link.taken ≡ (finished (begun setup (sizes_of ACKS IN ROUTES) tick script.now.lines tape)).taken) }
+    ensures gave { IfOk result (λ r. r.link.given ≡ (finished (begun setup (sizes_of ACKS IN ROUTES) tick script.now.lines tape)).given) }
     ensures sound { IfOk result (λ r. AllByRecursion IsSoundEntry r.journal) }
     ensures messages { IfOk result (λ r. r.messages ≡ messages_of 0 (reverse r.journal)) }
     ensures ending { IfOk result (λ r. Some r.ending ≡ ending_of setup (sizes_of ACKS IN ROUTES) (reverse r.journal)) }
@@ -60,6 +65,7 @@ pub fn replay<const ACKS: usize, const IN: usize, const ROUTES: usize>(
             journal: run.journal,
             messages: run.notes.messages,
             ending,
+            link: run.link,
         }),
         None => unreachable!(),
     }

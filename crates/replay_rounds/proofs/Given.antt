@@ -6,7 +6,7 @@ use Rattle.mqtt_packet.proofs.Numbers.{bytes_drop, bytes_take}
 use Rattle.broker_tape.specs.declared.tape.Item.{Item}
 use Rattle.broker_tape.specs.declared.tape.Item.TheVariants as items
 use Rattle.broker_tape.specs.Playing.{is_opening, closed, opens_at, opens, is_used, next, hears_of, hears_at, hears, bytes_at, present}
-use Rattle.replay_rounds.specs.Given.{GivesBytes}
+use Rattle.broker_tape.specs.Given.{GivesBytes}
 
 closed_by : (b : Bool) (item : Item) (rest : List Item) → GivesBytes (item ∷ rest) → GivesBytes (closed rest) → GivesBytes (cond b (item ∷ rest) (closed rest))
 closed_by true item rest h k = h

@@ -18,7 +18,7 @@ use Rattle.agent_table.specs.Rows.{Row}
 use Rattle.agent_table.specs.Ties.{Moment, arrived, listens, is_bad_bytes, Rejects}
 use Rattle.replay_rounds.specs.World.{World, phase_in, row_in}
 use Rattle.replay_rounds.specs.Entering.{entered, entered_by, noted}
-use Rattle.replay_rounds.specs.Given.{GivesBytes}
+use Rattle.broker_tape.specs.Given.{GivesBytes}
 use Rattle.replay_rounds.specs.Receiving.{handed}
 use Rattle.replay_rounds.proofs.Dues.{found_by}
 use Rattle.replay_rounds.proofs.Given.{closed_gives}

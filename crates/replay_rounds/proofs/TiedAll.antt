@@ -8,7 +8,7 @@ use Rattle.agent_journal.specs.Wires.{connections, Wired, AreReadings}
 use Rattle.agent_table.specs.Sizes.{Sizes}
 use Rattle.agent_table.specs.Ties.{stages, Heard, IsTied}
 use Rattle.replay_rounds.specs.World.{World}
-use Rattle.replay_rounds.specs.Given.{GivesBytes}
+use Rattle.broker_tape.specs.Given.{GivesBytes}
 use Rattle.replay_rounds.specs.Rounds.{begun}
 use Rattle.replay_rounds.specs.Bound.{bound, finished}
 use Rattle.replay_rounds.proofs.Ends.{begun_steady}

@@ -34,7 +34,7 @@ use Rattle.agent_table.specs.Sizes.{Sizes}
 use Rattle.agent_table.specs.Ties.{Moment, moment, stages, listens}
 use Rattle.replay_rounds.specs.World.{World, phase_in, row_in}
 use Rattle.replay_rounds.specs.Entering.{entered, noted}
-use Rattle.replay_rounds.specs.Given.{GivesBytes}
+use Rattle.broker_tape.specs.Given.{GivesBytes}
 use Rattle.replay_rounds.specs.Lines.{told_up, told_off, passes, submits, is_none_open, takes_step, takes_by, takes, ends_step, ends_by, ends}
 use Rattle.replay_rounds.specs.Receiving.{handed, hands, idles, received_by, receives}
 use Rattle.replay_rounds.specs.Rounds.{fresh, opened_by, opening, acts_in, acts_by, acts, round, has_ended, after}

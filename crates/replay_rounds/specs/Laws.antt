@@ -16,7 +16,7 @@ use Rattle.agent_table.specs.Sizes.{Sizes}
 use Rattle.agent_table.specs.Ties.{IsTied}
 use Rattle.replay_rounds.specs.Asked.{IsValidLine}
 use Rattle.replay_rounds.specs.Endings.{ending_of}
-use Rattle.replay_rounds.specs.Given.{GivesBytes}
+use Rattle.broker_tape.specs.Given.{GivesBytes}
 use Rattle.replay_rounds.specs.World.{World}
 use Rattle.replay_rounds.specs.Rounds.{after, begun, has_ended}
 use Rattle.replay_rounds.specs.Bound.{finished}
