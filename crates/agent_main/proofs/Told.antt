@@ -2,16 +2,19 @@
 use Rattle.std.proofs.Common.{◌≡◌, ◌≢◌, ◌⊎◌, ℕ, ◌+◌, ◌<◌, ◌≤◌, Bool, true, false, cond, List, [], ◌∷◌, length, drop, Option, Some, None, IfSome, Result, Ok, Err, refl, sym, ap, ◌∙◌, subst, arith, length-append}
 use Rattle.std.specs.Io.KnownBytes.{Consumes, IsAtEnd}
 use Rattle.std.proofs.KnownBytes.{Consumes-whole}
-use Rattle.std.proofs.lemmas.Bool.{lt-ltb, le-ltb, cases_lt}
-use Rattle.std.proofs.lemmas.List.{drop_all}
+use Rattle.std.specs.Prelude.{◌==◌}
+use Rattle.std.proofs.lemmas.Bool.{lt-ltb, le-ltb, cases_lt, ne_eqb}
 use mathlib.Core.Logic.{inl, inr}
 use Rattle.plain_text.specs.Lines.{lines_of}
-use Rattle.agent_link.specs.declared.tape.Item.{Item}
+use Rattle.broker_tape.specs.declared.tape.Item.{Item}
 use Rattle.agent_journal.specs.declared.script.Script.{Script}
-use Rattle.agent_journal.specs.Scripts.{script_of}
-use Rattle.replay_run.specs.declared.words.RunWords.{RunWords}
+use Rattle.agent_script.specs.Scripts.{script_of}
+use Rattle.command_words.specs.declared.words.RunWords.{RunWords}
+use Rattle.command_words.specs.declared.words.Words.{Words}
+use Rattle.command_words.specs.declared.words.Words.TheVariants.{Replay, Share, Fetch, Broker, World}
 use Rattle.replay_run.specs.Answers.{Answers}
-use Rattle.agent_main.specs.Answers.{source_answer, script_answer, tape_answer, bad_line, too_long, no_reading, words_answer}
+use Rattle.agent_main.specs.Answers.{source_answer, script_answer, named_answer, tape_answer, first_said, bad_line, too_long, no_reading, not_built, words_answer}
+use Rattle.thing_script.specs.Topics.{script_with}
 
 -- all of the source was read
 told_whole : (a b : Option (List ℕ)) (bytes : List ℕ) (words : RunWords) (result : ℕ) (old new : Option (List ℕ)) → Consumes a b bytes → (length bytes ≤ 1048576 → IsAtEnd b) → length bytes ≤ 1048576
@@ -64,28 +67,60 @@ pub line_told : (words : RunWords) (text : List ℕ) (number result : ℕ) (old 
     → Answers result old new (bad_line number) → Answers result old new (source_answer words text)
 line_told words text number result old new short is h = script_told words text (Err number) result old new short is h
 
+-- the script with its requests, or its first line that has no topic
+pub named_told : (words : RunWords) (text : List ℕ) (script : Script) (rest : List (List ℕ)) (named : Result Script ℕ) (result : ℕ) (old new : Option (List ℕ)) → script.tasks ≡ 1 → script_with words.thing script ≡ named
+    → Answers result old new (named_answer words text rest named) → Answers result old new (script_answer words text (Ok (script, rest)))
+named_told words text script rest named result old new one is h =
+    subst (Answers result old new)
+    (ap (named_answer words text rest) (sym is) ∙ sym (ap (λ n. cond (n == 1) (named_answer words text rest (script_with words.thing script)) (bad_line (first_said 1 (lines_of text)))) one)) h
+
+-- a line that has no topic
+pub topic_told : (words : RunWords) (text : List ℕ) (script : Script) (rest : List (List ℕ)) (number result : ℕ) (old new : Option (List ℕ)) → script.tasks ≡ 1 → script_with words.thing script ≡ Err number
+    → Answers result old new (bad_line number) → Answers result old new (script_answer words text (Ok (script, rest)))
+topic_told words text script rest number result old new one is h = named_told words text script rest (Err number) result old new one is h
+
+-- another number of tasks
+pub tasks_told : (words : RunWords) (text : List ℕ) (script : Script) (rest : List (List ℕ)) (number result : ℕ) (old new : Option (List ℕ)) → (script.tasks ≡ 1 → ⊥) → number ≡ first_said 1 (lines_of text)
+    → Answers result old new (bad_line number) → Answers result old new (script_answer words text (Ok (script, rest)))
+tasks_told words text script rest number result old new other is h =
+    subst (Answers result old new) (ap bad_line is ∙ sym (ap (λ b. cond b (named_answer words text rest (script_with words.thing script)) (bad_line (first_said 1 (lines_of text)))) (ne_eqb script.tasks 1 other))) h
+
 -- a bad line of the tape
 pub tape_told : (words : RunWords) (before number : ℕ) (script : Script) (tape : Result (List Item) ℕ) (result : ℕ) (old new : Option (List ℕ)) → tape ≡ Err number
     → Answers result old new (bad_line (before + number)) → Answers result old new (tape_answer words before script tape)
 tape_told words before number script tape result old new is h = subst (λ (t : Result (List Item) ℕ). Answers result old new (tape_answer words before script t)) (sym is) h
 
--- a line more was counted
-pub line_counted : (text line : List ℕ) (count at next all : ℕ) → count + length (lines_of (drop at text)) ≡ all → lines_of (drop at text) ≡ line ∷ lines_of (drop next text)
-    → count + 1 + length (lines_of (drop next text)) ≡ all
-line_counted text line count at next all h e = let size = ap length e in omega arith
+-- a replay
+pub replay_told : (a : Option (List ℕ)) (command : Words) (words : RunWords) (result : ℕ) (old new : Option (List ℕ)) → command ≡ Replay words
+    → IfSome a (λ text. result ≢ 9 → Answers result old new (source_answer words text)) → IfSome a (λ text. result ≢ 9 → Answers result old new (words_answer (Some command) text))
+replay_told a command words result old new e h = subst (λ (c : Words). IfSome a (λ text. result ≢ 9 → Answers result old new (words_answer (Some c) text))) (sym e) h
 
-no_lines : (text : List ℕ) → text ≡ [] → length (lines_of text) ≡ 0
-unfolding lines_of
-no_lines text e = ap (λ t. length (lines_of t)) e
+-- a command that isn't there yet
+abbrev pub IsOther : Words → Type 0
+IsOther (Replay words) = ⊥
+IsOther (Share words) = Unit {0}
+IsOther (Fetch words) = Unit {0}
+IsOther (Broker words) = Unit {0}
+IsOther (World words) = Unit {0}
 
-pub lines_counted : (text : List ℕ) (count at all : ℕ) → count + length (lines_of (drop at text)) ≡ all → length text ≤ at → count ≡ all
-lines_counted text count at all h end = let none = no_lines (drop at text) (drop_all at text end) in omega arith
+other_answer : (command : Words) (text : List ℕ) → IsOther command → words_answer (Some command) text ≡ not_built
+other_answer (Replay words) text other = absurd other
+other_answer (Share words) text other = refl
+other_answer (Fetch words) text other = refl
+other_answer (Broker words) text other = refl
+other_answer (World words) text other = refl
 
-pub words_told : (a : Option (List ℕ)) (read : Option RunWords) (words : RunWords) (result : ℕ) (old new : Option (List ℕ)) → read ≡ Some words
-    → IfSome a (λ text. result ≢ 9 → Answers result old new (source_answer words text)) → IfSome a (λ text. result ≢ 9 → Answers result old new (words_answer read text))
-words_told a read words result old new e h = subst (λ (r : Option RunWords). IfSome a (λ text. result ≢ 9 → Answers result old new (words_answer r text))) (sym e) h
+pub other_told : (a : Option (List ℕ)) (command : Words) (result : ℕ) (old new : Option (List ℕ)) → IsOther command → Answers result old new not_built
+    → IfSome a (λ text. result ≢ 9 → Answers result old new (words_answer (Some command) text))
+other_told None command result old new other h = tt
+other_told (Some text) command result old new other h = λ source. subst (Answers result old new) (sym (other_answer command text other)) h
 
-pub none_told : (a : Option (List ℕ)) (read : Option RunWords) (result : ℕ) (old new : Option (List ℕ)) → read ≡ None → Answers result old new no_reading
+-- what words spell
+pub words_told : (a : Option (List ℕ)) (read : Option Words) (command : Words) (result : ℕ) (old new : Option (List ℕ)) → read ≡ Some command
+    → IfSome a (λ text. result ≢ 9 → Answers result old new (words_answer (Some command) text)) → IfSome a (λ text. result ≢ 9 → Answers result old new (words_answer read text))
+words_told a read command result old new e h = subst (λ (r : Option Words). IfSome a (λ text. result ≢ 9 → Answers result old new (words_answer r text))) (sym e) h
+
+pub none_told : (a : Option (List ℕ)) (read : Option Words) (result : ℕ) (old new : Option (List ℕ)) → read ≡ None → Answers result old new no_reading
     → IfSome a (λ text. result ≢ 9 → Answers result old new (words_answer read text))
 none_told None read result old new e h = tt
-none_told (Some text) read result old new e h = λ other. subst (λ (r : Option RunWords). Answers result old new (words_answer r text)) (sym e) h
+none_told (Some text) read result old new e h = λ other. subst (λ (r : Option Words). Answers result old new (words_answer r text)) (sym e) h

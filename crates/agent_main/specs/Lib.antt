@@ -1,4 +1,2 @@
 pub mod Answers
-pub mod CommandReading
-pub mod Commands
 pub mod Headline

@@ -4,25 +4,30 @@
 ghost use Rattle.std.specs.Prelude.{◌≡◌, ◌≢◌, map, Some, None, IfSome, IfOk};
 ghost use Rattle.std.specs.String.{string_bytes};
 ghost use Rattle.agent_link.specs.Counts.{Rose};
-ghost use Rattle.replay_run.specs.declared.words.RunWords.{RunWords};
+ghost use Rattle.command_words.specs.Commands.{words_of};
+ghost use Rattle.command_words.specs.declared.words.RunWords.{RunWords};
+ghost use Rattle.command_words.specs.declared.words.Words.TheVariants.{Replay};
 ghost use Rattle.replay_run.specs.Answers.{Answers};
 ghost use Rattle.agent_main.specs.Answers.{whole_answer};
-ghost use Rattle.agent_main.specs.Commands.{words_of};
 ghost use Rattle.agent_main.specs.Headline.{HasRun, PrintsReplay};
 
+mod lines;
 mod std_sink;
 mod std_source;
 mod top;
-mod words;
 
 use crate::std_sink::StdSink;
 use crate::std_source::StdSource;
 use crate::top::top;
 use agent_link::{Sink, Source};
+use command_words::USAGE;
 use std::alloc::{AllocError, Global};
 use std::process::ExitCode;
 use std::rt::Env;
 use std::{env, io};
+
+/// The status of words that have no reading.
+const NO_WORDS: u8 = 1;
 
 fn main(rt: HostRuntime) -> ExitCode {
     let mut source = StdSource::new(rt.reader());
@@ -31,6 +36,10 @@ fn main(rt: HostRuntime) -> ExitCode {
         Ok(arguments) => run(rt.alloc(), arguments.as_slice(), &mut source, &mut sink),
         Err(_) => 7,
     };
+    if status == NO_WORDS {
+        // A person who typed a wrong word sees what there is. Nothing depends on it.
+        let _ = eprint!(rt; "{USAGE}");
+    }
     ExitCode::from(status)
 }
 
@@ -49,7 +58,7 @@ fn arguments(rt: &(impl Env + AllocGlobal), alloc: Global) -> Result<Vec<String>
 fn run<S: Source, O: Sink>(alloc: Global, arguments: &[String], source: &mut S, sink: &mut O) -> u8
     ensures answer { IfSome (S.left source.old) (λ text. result ≢ 9 →
         Answers result (O.written sink.old) (O.written sink.new) (whole_answer (map string_bytes arguments.now) text)) }
-    ensures history { IfSome (S.left source.old) (λ text. HasRun result → (w : RunWords) → words_of (map string_bytes arguments.now) ≡ Some w →
+    ensures history { IfSome (S.left source.old) (λ text. HasRun result → (w : RunWords) → words_of (map string_bytes arguments.now) ≡ Some (Replay w) →
         PrintsReplay w text result (O.written sink.old) (O.written sink.new)) }
     ensures words { result ≡ 1 → words_of (map string_bytes arguments.now) ≡ None }
     ensures source_fault { result ≡ 9 → Rose (S.faults source.old) (S.faults source.new) }

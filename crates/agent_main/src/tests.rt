@@ -2,12 +2,10 @@
 //! hand.
 
 use super::*;
-use agent_journal::{Cause, commands_complete_once, first_example, has_sound_packets};
 use agent_link::{MemSink, MemSource};
-use first_core::{Core, Phase, Setup};
-use list_types::Text;
-use replay_run::{replays_are_histories, replays_are_legal};
 use std::test::Fail;
+
+mod replays;
 
 const PUBLISHED: &[u8] = b"tasks 1\n0 publish 0 a/b 6869\ntape\nopen\nhear 20020000\n";
 
@@ -31,13 +29,7 @@ fn each_command_has_its_text_and_status(rt: HostRuntime) -> Result<(), Fail> {
         ),
         (
             words.as_slice(),
-            b"tasks 1\n0 ping\ntape\nopen\nhear 20020000\n".as_slice(),
-            b"fault script 2\n".as_slice(),
-            2,
-        ),
-        (
-            words.as_slice(),
-            b"tasks 1\ntape\nopen\nhear 2002\n".as_slice(),
+            b"tasks 1\ntape\nopen\nhear 2\n".as_slice(),
             b"fault script 4\n".as_slice(),
             2,
         ),
@@ -48,6 +40,14 @@ fn each_command_has_its_text_and_status(rt: HostRuntime) -> Result<(), Fail> {
             2,
         ),
         ([].as_slice(), PUBLISHED, b"fault words\n".as_slice(), 1),
+        (["replay"].as_slice(), PUBLISHED, b"fault words\n".as_slice(), 1),
+        (["--help"].as_slice(), PUBLISHED, b"fault words\n".as_slice(), 1),
+        (
+            ["world", "--seed", "1", "--events", "10"].as_slice(),
+            PUBLISHED,
+            b"fault not built\n".as_slice(),
+            13,
+        ),
     ] {
         let mut source = MemSource::new(text.to_vec(alloc)?, Vec::new(alloc));
         let mut sink = MemSink::new(alloc, Vec::new(alloc));
@@ -105,38 +105,4 @@ fn a_writer_that_is_full_has_taken_a_front(rt: HostRuntime) -> Result<(), Fail> 
     assert_eq!(rt; top(alloc, words.as_slice(), &mut source, &mut sink), 8);
     assert_eq!(rt; room.as_slice(), b"@0 opened".as_slice());
     Ok(())
-}
-
-#[test]
-fn an_agent_begins_in_down(rt: HostRuntime) -> Result<(), Fail> {
-    let alloc = rt.alloc();
-    let setup = Setup {
-        to: Text::from_str(alloc, "")?,
-        client: Text::from_str(alloc, "dev")?,
-        keep_alive: 60,
-        reopen: 5,
-        wipe: false,
-        tasks: 1,
-    };
-    let mut core = match Core::<20, 20, 32>::new(alloc, setup) {
-        Ok(core) => core,
-        Err((_, e)) => return Err(Fail::from(e)),
-    };
-    assert_eq!(rt; core.phase(), Phase::Down);
-    assert_eq!(rt; core.due(0), None);
-    assert!(rt; core.may(7, &Cause::Opened));
-    assert!(rt; core.step(7, Cause::Opened).is_ok());
-    assert_eq!(rt; core.phase(), Phase::Opening);
-    assert!(rt; !core.may(6, &Cause::Opened));
-    assert_eq!(rt; core.open_count(), 0);
-    Ok(())
-}
-
-#[test]
-fn laws_can_be_called() {
-    has_sound_packets();
-    commands_complete_once();
-    first_example();
-    replays_are_legal();
-    replays_are_histories();
 }

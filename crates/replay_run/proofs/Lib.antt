@@ -1,12 +1,3 @@
 pub mod Answered
-pub mod Entered
-pub mod Legal
-pub mod Lines
-pub mod Rounds
-pub mod Tallies
-pub mod DueRows
 pub mod Headline
-pub mod Histories
-pub mod Scripts
-pub mod Wires
-pub mod Sends
+pub mod Tallies

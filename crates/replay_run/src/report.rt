@@ -1,4 +1,4 @@
-//! What a replay prints: its journal, a line for its task and one for how it ended.
+//! What a replay prints: its journal, a line for its task, one for the kinds of its messages and one for how it ended.
 
 ghost use Rattle.std.specs.Prelude.{◌≡◌, ◌++◌, ◌+◌, ◌^◌, ◌<◌, reverse, count_by, IfOk, IsErrOf};
 ghost use Rattle.std.specs.List.{flat_map, AllByRecursion};
@@ -6,24 +6,31 @@ ghost use Rattle.agent_link.specs.Counts.{Counted};
 ghost use Rattle.agent_link.specs.Writes.{Writes};
 ghost use Rattle.agent_journal.specs.Parts.{IsSoundEntry};
 ghost use Rattle.agent_journal.specs.Projections as projections;
-ghost use Rattle.agent_journal.specs.Texts.{journal_text, entry_text};
-ghost use Rattle.agent_journal.specs.Texts.{last_line};
-ghost use Rattle.replay_run.specs.Answers.{task_line, report};
+ghost use Rattle.agent_journal.specs.Texts.{journal_text, entry_text, last_line};
+ghost use Rattle.replay_run.specs.Answers.{task_line, kinds_of, kinds_line, report};
 
 use agent_journal::{
     Cause, Effect, Ending, Entry, Journal, Part, Request, write_entry, write_parts,
 };
 use agent_link::{Fault, Page, Sink};
+use list_types::Text;
 use std::alloc::Global;
+use thing_script::kinds_of;
 
 /// The printed text of a journal that ended so.
-pub(crate) fn report_of(alloc: Global, journal: &Journal, ending: Ending) -> Result<Page, Fault>
+pub(crate) fn report_of(
+    alloc: Global,
+    thing: &Option<Text>,
+    journal: &Journal,
+    ending: Ending,
+) -> Result<Page, Fault>
     requires { AllByRecursion IsSoundEntry journal.now }
-    ensures { IfOk result (λ page. page ≡ report (reverse journal.now) ending) }
+    ensures { IfOk result (λ page. page ≡ report thing.now (reverse journal.now) ending) }
 {
     let mut page = Page::new(alloc);
     write_journal(&mut page, journal.as_slice())?;
     write_task_line(&mut page, journal.as_slice())?;
+    write_kinds_line(&mut page, thing, journal.as_slice())?;
     write_last_line(&mut page, ending)?;
     Ok(page)
 }
@@ -58,6 +65,41 @@ fn write_task_line<O: Sink>(out: &mut O, journal: &[Entry]) -> Result<(), Fault>
             Part::Total(got),
             Part::Plain(b" messages "),
             Part::Total(messages),
+            Part::Plain(b"\n"),
+        ],
+    )
+}
+
+/// With a thing, how many of the task's messages have topics of its shadows, and of its jobs.
+fn write_kinds_line<O: Sink>(
+    out: &mut O,
+    thing: &Option<Text>,
+    journal: &[Entry],
+) -> Result<(), Fault>
+    ensures text { Writes (O.written out.old) (O.written out.new) result (kinds_line 0 thing.now journal.now) }
+    ensures cause { Counted (IsErrOf result Fault.Failed) (O.faults out.old) (O.faults out.new) }
+{
+    match thing {
+        Some(thing) => write_kinds(out, thing.as_str(), journal),
+        None => Ok(()),
+    }
+}
+
+#[tactic(auto, unfolding(crate::specs::Answers::kinds_of))]
+fn write_kinds<O: Sink>(out: &mut O, thing: &str, journal: &[Entry]) -> Result<(), Fault>
+    ensures text { Writes (O.written out.old) (O.written out.new) result (kinds_of 0 thing.now journal.now) }
+    ensures cause { Counted (IsErrOf result Fault.Failed) (O.faults out.old) (O.faults out.new) }
+{
+    let kinds = kinds_of(thing, journal, 0);
+    write_parts(
+        out,
+        &[
+            Part::Plain(b"kinds "),
+            Part::Number(0),
+            Part::Plain(b" shadow "),
+            Part::Total(kinds.shadow),
+            Part::Plain(b" jobs "),
+            Part::Total(kinds.jobs),
             Part::Plain(b"\n"),
         ],
     )

@@ -1,6 +1,6 @@
 use Rattle.std.proofs.Common.{◌≡◌, Err, subst}
-use Rattle.agent_journal.specs.Scripts.{script_of}
-use Rattle.agent_journal.specs.ScriptReading.{Tells}
+use Rattle.agent_script.specs.Scripts.{script_of}
+use Rattle.agent_script.specs.ScriptReading.{Tells}
 use Rattle.agent_main.proofs.Told.{line_told}
 use Rattle.agent_main.proofs.top.run_script.Goals as goal
 

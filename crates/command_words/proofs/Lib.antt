@@ -1,0 +1,4 @@
+mod Cuts
+mod Loops
+mod Named
+mod Spelling

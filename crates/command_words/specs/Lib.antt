@@ -1,0 +1,10 @@
+pub mod Setups
+pub mod Options
+pub mod Given
+pub mod Reading
+pub mod Rows
+pub mod Classes
+pub mod Commands
+pub mod Ranges
+pub mod Spelling
+pub mod Laws

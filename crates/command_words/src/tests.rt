@@ -1,0 +1,309 @@
+//! Words that the table has, and words that it hasn't, each written from the table.
+
+use super::*;
+use list_types::Text;
+use std::alloc::{AllocError, Global};
+use std::test::Fail;
+
+/// What the words that stand between spaces are read as. Two spaces have an empty word between them.
+fn read(alloc: Global, line: &str) -> Result<Words, WordsFault> {
+    let words: Vec<&str> = line.split(' ').collect(alloc)?;
+    read_words(alloc, words.as_slice())
+}
+
+fn is_read(alloc: Global, line: &str, wanted: &Words) -> bool {
+    match read(alloc, line) {
+        Ok(words) => words == *wanted,
+        Err(_) => false,
+    }
+}
+
+fn is_refused(alloc: Global, line: &str) -> bool {
+    match read(alloc, line) {
+        Ok(_) => false,
+        Err(fault) => fault == WordsFault::Words,
+    }
+}
+
+fn text(alloc: Global, text: &str) -> Result<Text, AllocError> {
+    Text::from_str(alloc, text)
+}
+
+/// The options of a replay of `dev`, all others as they are where they aren't given.
+fn replay_of_dev(alloc: Global) -> Result<RunWords, AllocError> {
+    let to = text(alloc, "")?;
+    let client = text(alloc, "dev")?;
+    Ok(RunWords {
+        to,
+        client,
+        keep_alive: 60,
+        reopen: 5,
+        wipe: false,
+        tick: 0,
+        size: Size::Usual,
+        thing: None,
+    })
+}
+
+#[test]
+fn a_replay_has_its_defaults(rt: HostRuntime) -> Result<(), Fail> {
+    let alloc = rt.alloc();
+    let words = Words::Replay(replay_of_dev(alloc)?);
+    assert!(rt; is_read(alloc, "replay --client dev", &words));
+    assert!(rt; is_read(alloc, "replay --client=dev", &words));
+    Ok(())
+}
+
+#[test]
+fn a_run_has_its_agent(rt: HostRuntime) -> Result<(), Fail> {
+    let alloc = rt.alloc();
+    let words = replay_of_dev(alloc)?;
+    let setup = words.setup(alloc, 3)?;
+    assert_eq!(rt; setup.client.as_str(), "dev");
+    assert_eq!(rt; setup.tasks, 3);
+    Ok(())
+}
+
+#[test]
+fn a_replay_has_its_options(rt: HostRuntime) -> Result<(), Fail> {
+    let alloc = rt.alloc();
+    let to = text(alloc, "")?;
+    let client = text(alloc, "a=b")?;
+    let thing = text(alloc, "t:1")?;
+    let words = Words::Replay(RunWords {
+        to,
+        client,
+        keep_alive: 65_535,
+        reopen: 1_000,
+        wipe: true,
+        tick: 1_000_000,
+        size: Size::Tiny,
+        thing: Some(thing),
+    });
+    let line =
+        "replay --wipe --thing t:1 --size=tiny --tick 1000000 --reopen=1000 --client=a=b --keep-alive 65535";
+    assert!(rt; is_read(alloc, line, &words));
+    Ok(())
+}
+
+#[test]
+fn a_shared_run_has_its_options(rt: HostRuntime) -> Result<(), Fail> {
+    let alloc = rt.alloc();
+    let to = text(alloc, "h:1883")?;
+    let client = text(alloc, "dev")?;
+    let words = Words::Share(RunWords {
+        to,
+        client,
+        keep_alive: 0,
+        reopen: 0,
+        wipe: false,
+        tick: 0,
+        size: Size::Usual,
+        thing: None,
+    });
+    let line = "share --connect h:1883 --client dev --keep-alive 0 --reopen 0 --size usual";
+    assert!(rt; is_read(alloc, line, &words));
+    Ok(())
+}
+
+#[test]
+fn a_fetch_has_its_defaults(rt: HostRuntime) -> Result<(), Fail> {
+    let alloc = rt.alloc();
+    let to = text(alloc, "h")?;
+    let client = text(alloc, "dev")?;
+    let thing = text(alloc, "t1")?;
+    let words = Words::Fetch(FetchWords {
+        to,
+        client,
+        keep_alive: 60,
+        reopen: 5,
+        wipe: false,
+        thing,
+        block: 4_096,
+        tries: 5,
+        dump: false,
+    });
+    let line = "fetch --connect h --client dev --thing t1";
+    assert!(rt; is_read(alloc, line, &words));
+    Ok(())
+}
+
+#[test]
+fn a_fetch_has_its_options(rt: HostRuntime) -> Result<(), Fail> {
+    let alloc = rt.alloc();
+    let to = text(alloc, "h")?;
+    let client = text(alloc, "dev")?;
+    let thing = text(alloc, "t1")?;
+    let words = Words::Fetch(FetchWords {
+        to,
+        client,
+        keep_alive: 1,
+        reopen: 2,
+        wipe: true,
+        thing,
+        block: 65_536,
+        tries: 100,
+        dump: true,
+    });
+    let line =
+        "fetch --dump --tries 100 --block=65536 --wipe --reopen 2 --keep-alive 1 --thing t1 --client dev --connect h";
+    assert!(rt; is_read(alloc, line, &words));
+    Ok(())
+}
+
+#[test]
+fn a_broker_and_a_world_have_their_options(rt: HostRuntime) -> Result<(), Fail> {
+    let alloc = rt.alloc();
+    let at = text(alloc, "x")?;
+    let words = Words::Broker(BrokerWords {
+        at,
+        connections: 1_000_000,
+    });
+    let line = "broker --connections=1000000 --listen x";
+    assert!(rt; is_read(alloc, line, &words));
+    let words = Words::World(WorldWords {
+        seed: 18_446_744_073_709_551_615,
+        events: 1,
+    });
+    let line = "world --seed 18446744073709551615 --events 1";
+    assert!(rt; is_read(alloc, line, &words));
+    Ok(())
+}
+
+#[test]
+fn other_words_are_no_replay(rt: HostRuntime) {
+    let alloc = rt.alloc();
+    for line in [
+        "",
+        "--help",
+        "--client dev replay",
+        "mirror --client dev",
+        "replay",
+        "replay --help",
+        "replay --client dev --help",
+        "replay --client dev --version",
+        "replay --client dev --client x",
+        "replay --client=dev --client dev",
+        "replay --client dev --",
+        "replay -- --client dev",
+        "replay --client dev x",
+        "replay x --client dev",
+        "replay --client dev ",
+        "replay dev",
+        "replay --cli dev",
+        "replay -client dev",
+        "replay client=dev",
+        "replay --Client dev",
+        "Replay --client dev",
+        "replay --client",
+        "replay --client ",
+        "replay --client=",
+        "replay --client -dev",
+        "replay --client=-dev",
+        "replay --client --wipe",
+        "replay --client dé",
+        "replay --client dev --wipe --wipe",
+        "replay --client dev --wipe=",
+        "replay --client dev --wipe=true",
+        "replay --client dev --wipe true",
+        "replay --client dev --keep-alive",
+        "replay --client dev --keep-alive 65536",
+        "replay --client dev --keep-alive +1",
+        "replay --client dev --keep-alive 01",
+        "replay --client dev --keep-alive 1s",
+        "replay --client dev --reopen 1001",
+        "replay --client dev --tick 1000001",
+        "replay --client dev --size large",
+        "replay --client dev --size Tiny",
+        "replay --client dev --thing a/b",
+        "replay --client dev --connect h",
+        "replay --client dev --block 256",
+    ] {
+        assert!(rt; is_refused(alloc, line), "at {line:?}");
+    }
+}
+
+#[test]
+fn other_words_are_no_command(rt: HostRuntime) {
+    let alloc = rt.alloc();
+    for line in [
+        "share --client dev",
+        "share --connect h",
+        "share --connect h --client dev --tick 0",
+        "fetch --connect h --client dev",
+        "fetch --connect h --client dev --thing t --size tiny",
+        "fetch --connect h --client dev --thing t --block 300",
+        "fetch --connect h --client dev --thing t --block 128",
+        "fetch --connect h --client dev --thing t --block 131072",
+        "fetch --connect h --client dev --thing t --tries 101",
+        "broker --listen x",
+        "broker --connections 1",
+        "broker --listen x --connections 0",
+        "broker --listen x --connections 1000001",
+        "broker --listen x --connections 1 --client dev",
+        "world --seed 1",
+        "world --events 1",
+        "world --seed 18446744073709551616 --events 1",
+        "world --seed 100000000000000000000000000000 --events 1",
+        "world --seed 1 --events 0",
+        "world --seed 1 --events 1000001",
+    ] {
+        assert!(rt; is_refused(alloc, line), "at {line:?}");
+    }
+}
+
+#[test]
+fn no_words_are_no_command(rt: HostRuntime) {
+    let alloc = rt.alloc();
+    match read_words(alloc, [].as_slice()) {
+        Ok(_) => assert!(rt; false),
+        Err(fault) => assert_eq!(rt; fault, WordsFault::Words),
+    }
+}
+
+/// So many letters.
+fn letters(alloc: Global, count: usize) -> Result<String, AllocError> {
+    let mut text = String::new(alloc);
+    for _ in 0..count {
+        text.push_str("a")?;
+    }
+    Ok(text)
+}
+
+#[test]
+fn texts_have_their_lengths(rt: HostRuntime) -> Result<(), Fail> {
+    let alloc = rt.alloc();
+    let most = letters(alloc, 128)?;
+    let more = letters(alloc, 129)?;
+    let words = [
+        "replay",
+        "--client",
+        most.as_str(),
+        "--thing",
+        most.as_str(),
+    ];
+    assert!(rt; read_words(alloc, words.as_slice()).is_ok());
+    let words = ["replay", "--client", more.as_str()];
+    assert!(rt; read_words(alloc, words.as_slice()).is_err());
+    let words = ["replay", "--client", "dev", "--thing", more.as_str()];
+    assert!(rt; read_words(alloc, words.as_slice()).is_err());
+    let most = letters(alloc, 255)?;
+    let more = letters(alloc, 256)?;
+    let words = ["broker", "--connections", "1", "--listen", most.as_str()];
+    assert!(rt; read_words(alloc, words.as_slice()).is_ok());
+    let words = ["broker", "--connections", "1", "--listen", more.as_str()];
+    assert!(rt; read_words(alloc, words.as_slice()).is_err());
+    Ok(())
+}
+
+#[test]
+fn the_usage_names_each_command(rt: HostRuntime) {
+    for name in ["replay", "share", "fetch", "broker", "world"] {
+        assert!(rt; USAGE.contains(name), "at {name}");
+    }
+}
+
+#[test]
+fn laws_can_be_called() {
+    options_are_spelled();
+}

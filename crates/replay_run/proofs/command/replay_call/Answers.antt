@@ -1,0 +1,10 @@
+use Rattle.std.proofs.Common.{◌≡◌, List, ℕ, sym, ap, ◌∙◌, subst}
+use Rattle.replay_agent.specs.Runs.{sizes_of}
+use Rattle.replay_run.specs.Answers.{Answers, answer, replay_answer}
+use Rattle.replay_run.proofs.Headline.{prints_history}
+use Rattle.replay_run.proofs.command.replay_call.Goals as goal
+
+pub returns-in-Ok-clause-history : goal.returns-in-Ok-clause-history
+returns-in-Ok-clause-history g c =
+    prints_history c.args.words.now (sizes_of g.row.ACKS g.row.IN g.row.ROUTES) c.args.script.now c.args.tape c.finish.result (g.O.Sink.written c.args.out.now) (g.O.Sink.written c.finish.new.out)
+    (subst (λ a. Answers c.finish.result (g.O.Sink.written c.args.out.now) (g.O.Sink.written c.finish.new.out) a) (ap (answer c.in-Ok.status) c.as_slice.ensures ∙ c.in-Ok.ensures.answer) c.finish.ensures.answer) c.requires.one_task c.requires.lines

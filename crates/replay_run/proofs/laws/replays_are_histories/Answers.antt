@@ -1,5 +1,0 @@
-use Rattle.replay_run.proofs.Histories.{replays_are_histories}
-use Rattle.replay_run.proofs.laws.replays_are_histories.Goals as goal
-
-pub returns : goal.returns
-returns c = replays_are_histories

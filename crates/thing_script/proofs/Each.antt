@@ -1,0 +1,38 @@
+-- What holds of whatever is read, or made.
+use Rattle.std.proofs.Common.{◌≡◌, ℕ, Bool, true, false, cond, List, [], ◌∷◌, Option, Some, None, Result, Ok, Err}
+use Rattle.std.specs.List.{AllByRecursion}
+use Rattle.plain_text.specs.Reading.{◌>>=◌}
+use Rattle.agent_journal.specs.declared.script.Line.{Line}
+use Rattle.thing_script.specs.Topics.{lines_with, onto, onto_lines, request_line}
+
+abbrev pub SomeIs : {A : Type 0} → (A → Type 0) → Option A → Type 0
+SomeIs P None = Unit {0}
+SomeIs P (Some x) = P x
+
+pub bound : {A B : Type 0} (P : A → Type 0) (R : B → Type 0) (o : Option A) (next : A → Option B) → SomeIs P o → ((x : A) → P x → SomeIs R (next x)) → SomeIs R (o >>= next)
+bound P R None next h k = tt
+bound P R (Some x) next h k = k x h
+
+pub always : {A B : Type 0} (R : B → Type 0) (o : Option A) (next : A → Option B) → ((x : A) → SomeIs R (next x)) → SomeIs R (o >>= next)
+always R None next k = tt
+always R (Some x) next k = k x
+
+pub either : {A : Type 0} (R : A → Type 0) (b : Bool) (x y : Option A) → SomeIs R x → SomeIs R y → SomeIs R (cond b x y)
+either R true x y h k = h
+either R false x y h k = k
+
+abbrev pub OkIs : {A : Type 0} → (A → Type 0) → Result A ℕ → Type 0
+OkIs P (Ok x) = P x
+OkIs P (Err number) = Unit {0}
+
+-- what each line's request has, all of them have
+module _ (thing : Option (List ℕ)) (P Q : Line → Type 0) (keeps : (line : Line) → P line → OkIs Q (request_line thing line)) where
+  onto_each : (line : Result Line ℕ) (lines : Result (List Line) ℕ) → OkIs Q line → OkIs (AllByRecursion Q) lines → OkIs (AllByRecursion Q) (onto line lines)
+  onto_each (Ok line) (Ok lines) h k = (h, k)
+  onto_each (Ok line) (Err number) h k = tt
+  onto_each (Err number) lines h k = tt
+
+  pub each : (lines : List Line) → AllByRecursion P lines → OkIs (AllByRecursion Q) (lines_with thing lines)
+  unfolding lines_with
+  each [] h = tt
+  each (line ∷ lines) h = onto_each (request_line thing line) (lines_with thing lines) (keeps line h.0) (each lines h.1)

@@ -1,0 +1,7 @@
+mod Names
+mod Each
+pub mod Lines
+mod Loops
+pub mod Short
+mod Found
+mod Counts

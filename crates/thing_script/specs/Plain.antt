@@ -1,0 +1,32 @@
+-- Lines that ask for requests alone, and payloads that a request may have.
+use Rattle.std.specs.Prelude.{◌≤◌, ℕ, length}
+use Rattle.agent_journal.specs.declared.script.Line.{Line}
+use Rattle.agent_journal.specs.declared.script.Step.{Step}
+use Rattle.agent_journal.specs.declared.script.Step.TheVariants as steps
+use Rattle.replay_rounds.specs.Asked.{IsValidStep}
+
+-- it speaks of no shadow and of no job
+abbrev pub IsPlainStep : Step → Type 0
+IsPlainStep (steps.Do request) = Unit {0}
+IsPlainStep (steps.Shadow op name payload) = ⊥
+IsPlainStep (steps.Jobs op job payload) = ⊥
+IsPlainStep steps.Wait = Unit {0}
+IsPlainStep (steps.Listen count) = Unit {0}
+
+abbrev pub IsPlainLine : Line → Type 0
+IsPlainLine line = IsPlainStep line.step
+
+-- where it speaks of a shadow or a job, its payload has at most 131,072 bytes
+abbrev pub IsShortStep : Step → Type 0
+IsShortStep (steps.Do request) = Unit {0}
+IsShortStep (steps.Shadow op name payload) = length payload ≤ 131072
+IsShortStep (steps.Jobs op job payload) = length payload ≤ 131072
+IsShortStep steps.Wait = Unit {0}
+IsShortStep (steps.Listen count) = Unit {0}
+
+abbrev pub IsShortLine : Line → Type 0
+IsShortLine line = IsShortStep line.step
+
+-- its request is valid, whichever task's it is
+abbrev pub HasValidStep : Line → Type 0
+HasValidStep line = IsValidStep line.step
