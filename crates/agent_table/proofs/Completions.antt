@@ -55,7 +55,7 @@ module _ (t q : ℕ) where
   one_closed true n = omega arith
   one_closed false n = omega arith
 
-  none_closed : (n : ℕ) (left : ℕ → Bool) → AtMost 0 (closed_below n left)
+  pub none_closed : (n : ℕ) (left : ℕ → Bool) → AtMost 0 (closed_below n left)
   none_closed zero left = omega arith
   none_closed (suc n) left = then_none 0 (closed_below n left) _ (none_closed n left) (one_closed (left n) n)
 
@@ -63,7 +63,7 @@ module _ (t q : ℕ) where
   one_passed true n message = omega arith
   one_passed false n message = omega arith
 
-  none_passed : (n : ℕ) (r : Readings) (message : Message) → AtMost 0 (passed_below n r message)
+  pub none_passed : (n : ℕ) (r : Readings) (message : Message) → AtMost 0 (passed_below n r message)
   none_passed zero r message = omega arith
   none_passed (suc n) r message = then_none 0 (passed_below n r message) _ (none_passed n r message) (one_passed (is_reached r message.topic n) n message)
 
@@ -120,17 +120,17 @@ module _ (t q : ℕ) where
   within_if n true x y h k = h
   within_if n false x y h k = k
 
-  most_if : (n : ℕ) (b : Bool) (x y : List Effect) → AtMost n x → AtMost n y → AtMost n (cond b x y)
+  pub most_if : (n : ℕ) (b : Bool) (x y : List Effect) → AtMost n x → AtMost n y → AtMost n (cond b x y)
   most_if n true x y h k = h
   most_if n false x y h k = k
 
   within_ends : (s : Setup) (r : Readings) → Within (opened t q r.pending) (ends s r)
   within_ends s r = then_none (opened t q r.pending) (cancel_all r) (close s r) (all_open o.Cancelled r.pending) (none_closed s.tasks r.left)
 
-  none_renewed : (r : Readings) (asks : List Ask) → AtMost 0 (renew r asks)
+  pub none_renewed : (r : Readings) (asks : List Ask) → AtMost 0 (renew r asks)
   none_renewed r asks = none_subscribed (length asks) r.last_drawn (used r) asks
 
-  none_resumed : (r : Readings) → AtMost 0 (resume r)
+  pub none_resumed : (r : Readings) → AtMost 0 (resume r)
   none_resumed r =
       let rest = filter (λ command. not (is_among r.released command.id)) r.pending in
       then_none 0 (map (λ id. f.Send (p.PubRel id)) r.released) (flat_map (λ command. again_by command.id command.request) rest) (none_released r.released) (none_again rest)
@@ -169,7 +169,7 @@ module _ (t q : ℕ) where
   within_opening s r p.PingResp = within_ends s r
   within_opening s r p.Disconnect = within_ends s r
 
-  answered_pass : (s : Setup) (r : Readings) (qos : Qos) (topic payload : List ℕ) (packet : Packet) (n : ℕ) → AtMost n (pass s r qos topic payload ++ f.Send packet ∷ [])
+  pub answered_pass : (s : Setup) (r : Readings) (qos : Qos) (topic payload : List ℕ) (packet : Packet) (n : ℕ) → AtMost n (pass s r qos topic payload ++ f.Send packet ∷ [])
   answered_pass s r qos topic payload packet n = none_most n (pass s r qos topic payload ++ f.Send packet ∷ []) (then_none 0 (pass s r qos topic payload) (f.Send packet ∷ []) (none_passed s.tasks r (record { topic = topic; qos = qos; payload = payload })) (omega arith))
 
   within_message : (s : Setup) (l : Sizes) (r : Readings) (qos : Qos) (topic : List ℕ) (id : ℕ) (payload : List ℕ) → Within (opened t q r.pending) (message_row s l r qos topic id payload)
@@ -304,26 +304,26 @@ module _ (t q : ℕ) where
   -- ---- Takes
 
   -- the command that is taken
-  abbrev own : ℕ → ℕ → ℕ
+  abbrev pub own : ℕ → ℕ → ℕ
   own task seq = cond ((task == t) && (seq == q)) 1 0
 
-  one_done : (task seq : ℕ) (outcome : Outcome) → AtMost (own task seq) (f.Done task seq outcome ∷ [])
+  pub one_done : (task seq : ℕ) (outcome : Outcome) → AtMost (own task seq) (f.Done task seq outcome ∷ [])
   one_done task seq outcome = let one = count_more (completes t q) (f.Done task seq outcome) [] in omega (arith, one)
 
-  sent_done : (task seq : ℕ) (packet : Packet) (outcome : Outcome) → AtMost (own task seq) (f.Send packet ∷ f.Done task seq outcome ∷ [])
+  pub sent_done : (task seq : ℕ) (packet : Packet) (outcome : Outcome) → AtMost (own task seq) (f.Send packet ∷ f.Done task seq outcome ∷ [])
   sent_done task seq packet outcome =
       let first = count_more (completes t q) (f.Send packet) (f.Done task seq outcome ∷ []) in let one = one_done task seq outcome in omega (arith, first, one)
 
-  within_delivered : (l : Sizes) (r : Readings) (task seq : ℕ) (qos : Qos) (topic payload : List ℕ) → AtMost (own task seq) (takes.delivered l r task seq qos topic payload)
+  pub within_delivered : (l : Sizes) (r : Readings) (task seq : ℕ) (qos : Qos) (topic payload : List ℕ) → AtMost (own task seq) (takes.delivered l r task seq qos topic payload)
   within_delivered l r task seq qos topic payload = most_if (own task seq) (takes.is_full l r) (takes.at_once task seq o.NoRoom) _ (one_done task seq o.NoRoom) (omega arith)
 
-  within_request : (l : Sizes) (r : Readings) (task seq : ℕ) (qos : Qos) (topic payload : List ℕ) → Within (own task seq) (takes.publish_row l r task seq qos topic payload)
+  pub within_request : (l : Sizes) (r : Readings) (task seq : ℕ) (qos : Qos) (topic payload : List ℕ) → Within (own task seq) (takes.publish_row l r task seq qos topic payload)
   unfolding takes.publish_row
   within_request l r task seq AtMostOnce topic payload = sent_done task seq (p.Publish false AtMostOnce false topic 0 payload) o.Done
   within_request l r task seq AtLeastOnce topic payload = within_delivered l r task seq AtLeastOnce topic payload
   within_request l r task seq ExactlyOnce topic payload = within_delivered l r task seq ExactlyOnce topic payload
 
-  within_unsubscribed : (l : Sizes) (r : Readings) (task seq : ℕ) (filters : List (List ℕ)) → AtMost (own task seq) (takes.unsubscribed l r task seq filters)
+  pub within_unsubscribed : (l : Sizes) (r : Readings) (task seq : ℕ) (filters : List (List ℕ)) → AtMost (own task seq) (takes.unsubscribed l r task seq filters)
   within_unsubscribed l r task seq [] = one_done task seq o.Done
   within_unsubscribed l r task seq (topics ∷ filters) = most_if (own task seq) (takes.is_full l r) (takes.at_once task seq o.NoRoom) _ (one_done task seq o.NoRoom) (omega arith)
 

@@ -68,7 +68,7 @@ not_not true = refl
 not_not false = refl
 
 -- a command of these two numbers stays open where no effect completes it
-stays_is : (t q : ℕ) (effects : List Effect) (c : Pending) → is_command t q c ≡ true → stays_open effects c ≡ (dones t q effects == 0)
+pub stays_is : (t q : ℕ) (effects : List Effect) (c : Pending) → is_command t q c ≡ true → stays_open effects c ≡ (dones t q effects == 0)
 stays_is t q effects c e =
     let parts = both (c.task == t) (c.seq == q) e in
     let task_is : c.task ≡ t = eqb-true c.task t parts.0 in

@@ -29,7 +29,7 @@ use Rattle.agent_table.proofs.Ends.{Accepts, Completed, Leads, leads_row}
 use Rattle.agent_table.proofs.Once.{opens_by, each_is_open_or_done, none_is_early}
 
 -- a Take leaves the agent in Up or in Off
-abbrev Lands : Option Row → Type 0
+abbrev pub Lands : Option Row → Type 0
 Lands None = Unit {0}
 Lands (Some row) = (row.phase ≡ Up) ⊎ (row.phase ≡ Off)
 
@@ -69,7 +69,7 @@ lands_in s l r task seq request Up = lands_up s l r task seq request
 lands_in s l r task seq request Spilled = tt
 lands_in s l r task seq request Off = lands_off r task seq request
 
-lands : (s : Setup) (l : Sizes) (r : Readings) (at task seq : ℕ) (request : Request) → Lands (row_of s l r at (c.Take task seq request))
+pub lands : (s : Setup) (l : Sizes) (r : Readings) (at task seq : ℕ) (request : Request) → Lands (row_of s l r at (c.Take task seq request))
 unfolding row_of takes.take_row
 lands s l r at task seq request =
     let inner = takes.take_in s l r task seq request r.phase in

@@ -11,3 +11,9 @@ pub mod Fresh
 pub mod SoundPackets
 pub mod SoundRows
 pub mod SoundPasts
+pub mod Sendings
+pub mod Staying
+pub mod RouteLists
+pub mod Rooms
+pub mod FewUsed
+pub mod Awaiting

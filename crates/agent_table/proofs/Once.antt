@@ -38,7 +38,7 @@ stays_off true e = absurd (cc e)
 stays_off false e = refl
 
 -- A Take's number is the count of its task's Takes, and the task hasn't left.
-taken_next : (s : Setup) (l : Sizes) (r : Readings) (at task seq : ℕ) (request : Request) → is_some (row_of s l r at (c.Take task seq request)) ≡ true → (seq ≡ r.takes task) × (r.left task ≡ false)
+pub taken_next : (s : Setup) (l : Sizes) (r : Readings) (at task seq : ℕ) (request : Request) → is_some (row_of s l r at (c.Take task seq request)) ≡ true → (seq ≡ r.takes task) × (r.left task ≡ false)
 unfolding row_of take_row may_take
 taken_next s l r at task seq request some =
     let may = (some_when (nat_lt task s.tasks && not (r.left task) && (seq == r.takes task) && is_valid request) _ (some_when _ _ some).1).0 in
@@ -57,7 +57,7 @@ more_by s l past t q at c.Tick some = none_more q (commands_of t past)
 more_by s l past t q at c.GaveUp some = none_more q (commands_of t past)
 more_by s l past t q at c.Finish some = none_more q (commands_of t past)
 
-few : (q n : ℕ) → below q n ≤ 1
+pub few : (q n : ℕ) → below q n ≤ 1
 few q n = elim (cases_Bool (nat_lt q n)) [ inl e ↦ rw e (omega arith) | inr e ↦ rw e (omega arith) ]
 
 -- the effects of a row complete no more than this

@@ -38,10 +38,10 @@ nil : (xs : List Effect) → xs ++ [] ≡ xs
 nil [] = refl
 nil (x ∷ xs) = ap (λ (es : List Effect). x ∷ es) (nil xs)
 
-none_closed : (n : ℕ) (left : ℕ → Bool) → sent_id (closed_below n left) ≡ None
+pub none_closed : (n : ℕ) (left : ℕ → Bool) → sent_id (closed_below n left) ≡ None
 none_closed n left = ap sent_id (sym (nil (closed_below n left))) ∙ none_drawn n left []
 
-done_draws : (outcome : Outcome) (commands : List Pending) (rest : List Effect) → sent_id (map (done outcome) commands ++ rest) ≡ sent_id rest
+pub done_draws : (outcome : Outcome) (commands : List Pending) (rest : List Effect) → sent_id (map (done outcome) commands ++ rest) ≡ sent_id rest
 done_draws outcome [] rest = refl
 done_draws outcome (c ∷ commands) rest = done_draws outcome commands rest
 

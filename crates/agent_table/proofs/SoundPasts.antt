@@ -40,7 +40,7 @@ use Rattle.agent_table.specs.Table.{row_of, cause_row}
 use Rattle.agent_table.specs.Takes as takes
 use Rattle.agent_table.proofs.Once.{has_row}
 use Rattle.agent_table.proofs.SoundPackets.{IsWellAsk, IsWellFilter}
-use Rattle.agent_table.proofs.SoundRows.{IsLow, IsSome, IsAwaited, IsWellPending, IsWell, AreWell, IsWellRow, all_both, all_kept, all_tested, well_row}
+use Rattle.agent_table.proofs.SoundRows.{IsLow, IsSome, IsAwaited, IsWellPending, IsWell, AreWell, IsWellRow, all_both, all_kept, all_passed, all_tested, well_row}
 
 -- ---- What a row says of its cause
 
@@ -169,7 +169,7 @@ drawn_low (f.Done task seq outcome ∷ effects) well = drawn_low effects well.1
 drawn_low (f.Pass task message ∷ effects) well = drawn_low effects well.1
 drawn_low (f.Closed task ∷ effects) well = drawn_low effects well.1
 
-last_low : (n : ℕ) (ns : List ℕ) → n ≤ 65535 → AllByRecursion IsLow ns → last_or n ns ≤ 65535
+pub last_low : (n : ℕ) (ns : List ℕ) → n ≤ 65535 → AllByRecursion IsLow ns → last_or n ns ≤ 65535
 last_low n [] low all = low
 last_low n (m ∷ ns) low all = last_low m ns all.0 all.1
 
@@ -192,14 +192,6 @@ opens_well s l r time c.GaveUp effects well e = tt
 opens_well s l r time c.Finish effects well e = tt
 
 -- ---- Released publishes
-
-passed_by : (test : ℕ → Bool) (b : Bool) (n : ℕ) (ns : List ℕ) → test n ≡ b → AllByRecursion (λ m. test m ≡ true) ns → AllByRecursion (λ m. test m ≡ true) (cond b (n ∷ ns) ns)
-passed_by test true n ns e all = (e, all)
-passed_by test false n ns e all = all
-
-all_passed : (test : ℕ → Bool) (ns : List ℕ) → AllByRecursion (λ m. test m ≡ true) (filter test ns)
-all_passed test [] = tt
-all_passed test (n ∷ ns) = passed_by test (test n) n (filter test ns) refl (all_passed test ns)
 
 open_by : (here : Bool) (publish others : Bool) (n : ℕ) (command : Pending) → (command.id == n) ≡ here → 0 < command.id → (others ≡ true → 0 < n) → ((here && publish) || others) ≡ true → 0 < n
 open_by true publish others n command e low rest is = subst IsSome (eqb-true command.id n e) low

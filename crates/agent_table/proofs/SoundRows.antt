@@ -5,6 +5,7 @@ use Rattle.std.specs.Prelude.{◌&&◌, ◌==◌, not, nat_lt, nat_le}
 use Rattle.std.specs.List.{list_all, list_any, flat_map, AllByRecursion}
 use Rattle.std.proofs.lemmas.Bool.{leb-true}
 use Rattle.std.proofs.lemmas.List.{length-take}
+use Rattle.std.proofs.lemmas.List.Sums.{length-filter, count_by-le-length}
 use Rattle.mqtt_packet.specs.declared.qos.Qos.{Qos}
 use Rattle.mqtt_packet.specs.declared.qos.Qos.TheVariants.{AtMostOnce, AtLeastOnce, ExactlyOnce}
 use Rattle.mqtt_packet.specs.declared.packet.Packet.{Packet}
@@ -106,6 +107,17 @@ kept_by P false x xs h k = k
 pub all_kept : {X : Type 0} (P : X → Type 0) (keeps : X → Bool) (xs : List X) → AllByRecursion P xs → AllByRecursion P (filter keeps xs)
 all_kept P keeps [] h = tt
 all_kept P keeps (x ∷ xs) h = kept_by P (keeps x) x (filter keeps xs) h.0 (all_kept P keeps xs h.1)
+
+passed_by : {X : Type 0} (test : X → Bool) (b : Bool) (x : X) (xs : List X) → test x ≡ b → AllByRecursion (λ y. test y ≡ true) xs → AllByRecursion (λ y. test y ≡ true) (cond b (x ∷ xs) xs)
+passed_by test true x xs e all = (e, all)
+passed_by test false x xs e all = all
+
+pub all_passed : {X : Type 0} (test : X → Bool) (xs : List X) → AllByRecursion (λ x. test x ≡ true) (filter test xs)
+all_passed test [] = tt
+all_passed test (x ∷ xs) = passed_by test (test x) x (filter test xs) refl (all_passed test xs)
+
+pub few_kept : {X : Type 0} (keeps : X → Bool) (xs : List X) → length (filter keeps xs) ≤ length xs
+few_kept keeps xs = let size = length-filter keeps xs in let most = count_by-le-length keeps xs in omega (arith, size, most)
 
 all_taken : {X : Type 0} (P : X → Type 0) (n : ℕ) (xs : List X) → AllByRecursion P xs → AllByRecursion P (take n xs)
 all_taken P zero xs h = tt
@@ -404,14 +416,6 @@ module _ (s : Setup) (l : Sizes) (r : Readings) (client : is_client s.client ≡
   well_disconnect : (task seq : ℕ) → IsWellRow (takes.disconnect_row s r task seq)
   unfolding takes.disconnect_row
   well_disconnect task seq = well_both (cancel_all r) (f.Send p.Disconnect ∷ f.Done task seq o.Done ∷ close s r) (well_done o.Cancelled r.pending) ((disconnect_sound, tt), (tt, well_close))
-
-  few_kept : (keeps : List ℕ → Bool) (filters : List (List ℕ)) → length (filter keeps filters) ≤ length filters
-  few_kept keeps [] = omega arith
-  few_kept keeps (topics ∷ filters) = by (keeps topics) (few_kept keeps filters)
-    where
-      by : (b : Bool) → length (filter keeps filters) ≤ length filters → length (cond b (topics ∷ filter keeps filters) (filter keeps filters)) ≤ suc (length filters)
-      by true h = omega (arith, h)
-      by false h = omega (arith, h)
 
   well_request : (task seq : ℕ) (request : Request) → is_valid request ≡ true → IsWellRow (takes.up_row s l r task seq request)
   unfolding takes.subscribe_row takes.unsubscribe_row is_valid

@@ -18,8 +18,10 @@ use Rattle.agent_journal.specs.Parts.{IsSoundEntry}
 use Rattle.agent_journal.specs.Setups.{is_client}
 use Rattle.agent_journal.specs.Projections.{commands_of, completions_of, NoneEarly, CompletesOnce}
 use Rattle.agent_journal.specs.Readings.{Pending, pending_of}
+use Rattle.agent_table.specs.Awaiting.{NoneIsPublishedAgain, NoReleasedIsSent}
 use Rattle.agent_table.specs.Deliveries.{is_among, is_open_publish, is_exactly_once, released_of}
 use Rattle.agent_table.specs.Histories.{IsLegalPast, IsWholePast, readings, row, effects_of}
+use Rattle.agent_table.specs.Effects.{used}
 use Rattle.agent_table.specs.Identifiers.{fresh}
 use Rattle.agent_table.specs.Readings.{Readings}
 use Rattle.agent_table.specs.Sizes.{Sizes}
@@ -125,3 +127,19 @@ FreshIsFresh = (last : ℕ) (used : List ℕ) → last ≤ 65535 → length used
 -- Each packet of a legal journal, sent or arrived, has a spelling, where the client identifier is one.
 abbrev pub PacketsAreSound : Type 0
 PacketsAreSound = (s : Setup) (l : Sizes) (past : List Entry) → is_client s.client ≡ true → IsLegalPast s l past → AllByRecursion IsSoundEntry past
+
+-- In a legal journal no more identifiers are in use at once than there is room for commands and routes.
+abbrev pub IdentifiersAreFew : Type 0
+IdentifiersAreFew = (s : Setup) (l : Sizes) (past : List Entry) → IsLegalPast s l past → length (used (readings s l past)) ≤ l.acks + l.routes
+
+-- So with sizes like these some identifier is always free; there are 65,535.
+abbrev pub HasIdentifiers : Sizes → Type 0
+HasIdentifiers l = l.acks + l.routes < 65535
+
+-- No entry of a legal journal sends a PUBLISH of an identifier that is released then.
+abbrev pub NoReleasedIsPublished : Type 0
+NoReleasedIsPublished = (s : Setup) (l : Sizes) (past : List Entry) → HasIdentifiers l → IsLegalPast s l past → NoReleasedIsSent past
+
+-- In a legal journal no PUBLISH is sent while the PUBCOMP of its identifier is awaited (MQTT 3.1.1, section 4.3.3).
+abbrev pub AwaitedStayUnpublished : Type 0
+AwaitedStayUnpublished = (s : Setup) (l : Sizes) (past : List Entry) → HasIdentifiers l → IsLegalPast s l past → NoneIsPublishedAgain past

@@ -15,6 +15,7 @@ pub mod Breaks
 pub mod Table
 pub mod Histories
 pub mod Ties
+pub mod Awaiting
 pub mod Worked
 pub mod Laws
 pub mod Promises

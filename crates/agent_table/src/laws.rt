@@ -85,3 +85,24 @@ pub fn fresh_is_fresh()
 pub fn packets_are_sound()
     ensures { laws.PacketsAreSound }
 {}
+
+/// No more identifiers are in use at once than there is room for open commands and for routes.
+#[tactic(auto, using(crate::proofs::FewUsed::identifiers_are_few))]
+pub fn identifiers_are_few()
+    ensures { laws.IdentifiersAreFew }
+{}
+
+/// No entry sends a PUBLISH of an identifier that is released then, where there are more identifiers than
+/// room for commands and routes.
+#[tactic(auto, using(crate::proofs::Awaiting::no_released_is_published))]
+pub fn no_released_is_published()
+    ensures { laws.NoReleasedIsPublished }
+{}
+
+/// From a PUBREL on, until its PUBCOMP arrives or a CONNACK that has no session present, no PUBLISH of that
+/// identifier is sent (MQTT 3.1.1, section 4.3.3), where there are more identifiers than room for commands
+/// and routes.
+#[tactic(auto, using(crate::proofs::Awaiting::awaited_stay_unpublished))]
+pub fn awaited_stay_unpublished()
+    ensures { laws.AwaitedStayUnpublished }
+{}

@@ -4,7 +4,8 @@
 mod laws;
 
 pub use laws::{
-    commands_complete_once, delivery_examples, each_is_open_or_done, end_examples,
-    ends_with_none_open, first_examples, fresh_is_fresh, message_examples, none_is_early,
-    outcomes_are_earned, packets_are_sound, released_were_received, renewal_examples,
+    awaited_stay_unpublished, commands_complete_once, delivery_examples, each_is_open_or_done,
+    end_examples, ends_with_none_open, first_examples, fresh_is_fresh, identifiers_are_few,
+    message_examples, no_released_is_published, none_is_early, outcomes_are_earned,
+    packets_are_sound, released_were_received, renewal_examples,
 };

@@ -1,9 +1,9 @@
 -- What holds of whatever is read, or made.
-use Rattle.std.proofs.Common.{◌≡◌, ℕ, Bool, true, false, cond, List, [], ◌∷◌, Option, Some, None, Result, Ok, Err}
+use Rattle.std.proofs.Common.{ℕ, Bool, true, false, cond, List, [], ◌∷◌, Option, Some, None, Result, Ok, Err}
 use Rattle.std.specs.List.{AllByRecursion}
 use Rattle.plain_text.specs.Reading.{◌>>=◌}
 use Rattle.agent_journal.specs.declared.script.Line.{Line}
-use Rattle.thing_script.specs.Topics.{lines_with, onto, onto_lines, request_line}
+use Rattle.thing_script.specs.Topics.{lines_with, onto, request_line}
 
 abbrev pub SomeIs : {A : Type 0} → (A → Type 0) → Option A → Type 0
 SomeIs P None = Unit {0}

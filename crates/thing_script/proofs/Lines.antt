@@ -1,11 +1,9 @@
 -- What holds of the lines with all their requests.
-use Rattle.std.proofs.Common.{◌≡◌, ℕ, suc, ◌≤◌, Bool, true, List, [], ◌∷◌, length, Option, Some, None, Result, Ok, Err, refl, sym, ap, ◌∙◌, subst, arith}
-use Rattle.std.specs.Prelude.{nat_le, codes}
+use Rattle.std.proofs.Common.{◌≡◌, ℕ, suc, ◌≤◌, true, List, [], ◌∷◌, length, Option, Some, None, Result, Ok, Err, refl, ap, subst, arith}
+use Rattle.std.specs.Prelude.{codes}
 use Rattle.std.specs.List.{AllByRecursion}
 use Rattle.std.specs.Str.{bytes_eq}
 use Rattle.std.proofs.lemmas.Bool.{le-leb}
-use Rattle.mqtt_packet.specs.declared.qos.Qos.TheVariants.{AtLeastOnce}
-use Rattle.agent_journal.specs.declared.request.Request.TheVariants as requests
 use Rattle.agent_journal.specs.declared.script.Line.{Line}
 use Rattle.agent_journal.specs.declared.script.Step.{Step}
 use Rattle.agent_journal.specs.declared.script.Step.TheVariants as steps
@@ -13,13 +11,11 @@ use Rattle.agent_journal.specs.Requests.{is_topic, is_valid}
 use Rattle.replay_rounds.specs.Asked.{IsValidLine, IsValidStep}
 use Rattle.thing_topics.specs.declared.faults.NameFault.{NameFault}
 use Rattle.thing_topics.specs.declared.shadows.ShadowKind.{ShadowKind}
-use Rattle.thing_topics.specs.declared.shadows.ShadowKind.TheVariants as shadow_kinds
 use Rattle.thing_topics.specs.declared.jobs.JobsKind.{JobsKind}
-use Rattle.thing_topics.specs.declared.jobs.JobsKind.TheVariants as jobs_kinds
 use Rattle.thing_topics.specs.Shadows as shadows
 use Rattle.thing_topics.specs.Jobs as jobs
 use Rattle.thing_script.specs.Plain.{HasValidStep, IsPlainLine, IsPlainStep, IsShortLine, IsShortStep}
-use Rattle.thing_script.specs.Topics.{jobs_kind, jobs_step, jobs_topic, line_with, lines_with, of_tasks, onto, or_number, publish, request_line, script_with, shadow_kind, shadow_step, shadow_topic, step_with, topic_or_none}
+use Rattle.thing_script.specs.Topics.{jobs_kind, jobs_step, jobs_topic, lines_with, onto, or_number, publish, request_line, shadow_kind, shadow_step, shadow_topic, step_with, topic_or_none}
 use Rattle.thing_script.proofs.Each.{SomeIs, OkIs, always, bound, each, either}
 use Rattle.thing_script.proofs.Names.{AreTopicBytes, Word, jobs_topic_valid, shadow_topic_valid}
 

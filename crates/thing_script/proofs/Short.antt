@@ -11,7 +11,6 @@ use Rattle.plain_text.specs.Words.{word_at, last_at}
 use Rattle.agent_journal.specs.declared.request.Request.{Request}
 use Rattle.agent_journal.specs.declared.script.Line.{Line}
 use Rattle.agent_journal.specs.declared.script.Script.{Script}
-use Rattle.agent_journal.specs.declared.script.Step.{Step}
 use Rattle.agent_script.specs.Requests.{publish_of, subscribe_of, unsubscribe_of}
 use Rattle.agent_script.specs.Scripts.{Read, is_tape, line_or_number, lines_from, script_behind, script_from, script_of, script_with, tasks_of}
 use Rattle.agent_script.specs.Steps.{all_jobs_of, by_words, does, job_step, jobs_of, line_of, listen_of, named, one_job_of, shadow_name, shadow_of, shadow_op, short_payload, step_of, task_of, word_of, words_of}

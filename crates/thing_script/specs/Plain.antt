@@ -1,5 +1,5 @@
 -- Lines that ask for requests alone, and payloads that a request may have.
-use Rattle.std.specs.Prelude.{◌≤◌, ℕ, length}
+use Rattle.std.specs.Prelude.{◌≤◌, length}
 use Rattle.agent_journal.specs.declared.script.Line.{Line}
 use Rattle.agent_journal.specs.declared.script.Step.{Step}
 use Rattle.agent_journal.specs.declared.script.Step.TheVariants as steps

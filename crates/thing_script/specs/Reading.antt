@@ -1,7 +1,5 @@
 -- What an answer says of the script that the definition gives.
-use Rattle.std.specs.Prelude.{◌≡◌, ℕ, List, Option, Some, None, Result, Ok, Err}
-use Rattle.agent_journal.specs.declared.script.Line.{Line}
-use Rattle.agent_journal.specs.declared.script.Script.{Script}
+use Rattle.std.specs.Prelude.{◌≡◌, ℕ, Result, Ok, Err}
 use Rattle.thing_script.specs.declared.faults.LineFault.{LineFault}
 use Rattle.thing_script.specs.declared.faults.LineFault.TheVariants as faults
 

@@ -23,6 +23,7 @@ use std::alloc::Global;
 pub fn with_topics(alloc: Global, script: Script, thing: Option<&str>) -> Result<Script, LineFault>
     ensures script { Tells result (topics.script_with (option_copied thing.entry) script) }
     ensures plain { IfOk result (λ s. AllByRecursion IsPlainLine s.lines) }
+    ensures tasks { IfOk result (λ s. s.tasks ≡ script.tasks) }
     ensures count { IfOk result (λ s. length s.lines ≡ length script.lines) }
 
     // Where requests were valid and payloads are short, requests are valid: of all tasks, and of the one of a replay.

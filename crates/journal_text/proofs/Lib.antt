@@ -1,0 +1,9 @@
+pub mod Marks
+pub mod Pieces
+pub mod Bytes
+pub mod Spelled
+pub mod Lines
+pub mod Names
+pub mod Ends
+pub mod Told
+pub mod Worked
