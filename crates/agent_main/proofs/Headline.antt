@@ -1,5 +1,5 @@
 -- What the program prints of a replay is its history.
-use Rattle.std.proofs.Common.{◌≡◌, ◌≢◌, ℕ, ◌+◌, ◌-◌, Bool, true, false, cond, List, [], ◌∷◌, length, Option, Some, None, IfSome, Result, Ok, Err, refl, sym, ap, ◌∙◌, subst, arith}
+use Rattle.std.proofs.Common.{◌≡◌, ◌≢◌, ℕ, ◌-◌, Bool, true, false, cond, List, length, Option, Some, None, IfSome, Result, Ok, Err, refl, sym, ap, ◌∙◌, subst}
 use Rattle.std.specs.Prelude.{nat_lt, ◌==◌}
 use Rattle.std.specs.List.{AllByRecursion}
 use Rattle.std.proofs.lemmas.Bool.{eqb-true}
@@ -13,7 +13,7 @@ use Rattle.agent_script.specs.Scripts.{script_of}
 use Rattle.command_words.specs.Commands.{words_of}
 use Rattle.command_words.specs.declared.words.RunWords.{RunWords}
 use Rattle.command_words.specs.declared.words.Words.{Words}
-use Rattle.command_words.specs.declared.words.Words.TheVariants.{Replay, Share, Fetch, Broker, World}
+use Rattle.command_words.specs.declared.words.Words.TheVariants.{Replay}
 use Rattle.replay_agent.proofs.ReadLines.{read_script_valid}
 use Rattle.replay_rounds.specs.Asked.{IsValidLine}
 use Rattle.replay_run.specs.Answers.{Answers}
@@ -109,8 +109,8 @@ pub replay_kept : (a : Option (List ℕ)) (command : Words) (words : RunWords) (
 replay_kept None command words status old new is told = tt
 replay_kept (Some text) command words status old new is told =
     λ ran other e.
-      let same : words ≡ other = replay_same words other (sym is ∙ e) in
-      subst (λ (w : RunWords). PrintsReplay w text status old new) same (by_source words text status old new ran (told ran.had_source))
+    let same : words ≡ other = replay_same words other (sym is ∙ e) in
+    subst (λ (w : RunWords). PrintsReplay w text status old new) same (by_source words text status old new ran (told ran.had_source))
 
 -- of another command
 other_is : (command : Words) (words : RunWords) → IsOther command → command ≡ Replay words → ⊥

@@ -5,6 +5,7 @@ use super::*;
 use agent_link::{MemSink, MemSource};
 use std::test::Fail;
 
+mod links;
 mod replays;
 
 const PUBLISHED: &[u8] = b"tasks 1\n0 publish 0 a/b 6869\ntape\nopen\nhear 20020000\n";
@@ -40,8 +41,18 @@ fn each_command_has_its_text_and_status(rt: HostRuntime) -> Result<(), Fail> {
             2,
         ),
         ([].as_slice(), PUBLISHED, b"fault words\n".as_slice(), 1),
-        (["replay"].as_slice(), PUBLISHED, b"fault words\n".as_slice(), 1),
-        (["--help"].as_slice(), PUBLISHED, b"fault words\n".as_slice(), 1),
+        (
+            ["replay"].as_slice(),
+            PUBLISHED,
+            b"fault words\n".as_slice(),
+            1,
+        ),
+        (
+            ["--help"].as_slice(),
+            PUBLISHED,
+            b"fault words\n".as_slice(),
+            1,
+        ),
         (
             ["world", "--seed", "1", "--events", "10"].as_slice(),
             PUBLISHED,

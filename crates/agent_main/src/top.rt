@@ -58,12 +58,7 @@ pub fn top<S: Source, O: Sink>(alloc: Global, words: &[&str], script: &mut S, ou
 
 /// Runs a command.
 #[tactic(auto, using(crate::proofs::Told::replay_told, crate::proofs::Told::other_told, crate::proofs::Headline::replay_kept, crate::proofs::Headline::other_kept))]
-fn run_command<S: Source, O: Sink>(
-    alloc: Global,
-    words: &Words,
-    script: &mut S,
-    out: &mut O,
-) -> u8
+fn run_command<S: Source, O: Sink>(alloc: Global, words: &Words, script: &mut S, out: &mut O) -> u8
     requires { AreInRange words.now }
     ensures answer { IfSome (S.left script.old) (λ text. result ≢ 9 →
         Answers result (O.written out.old) (O.written out.new) (answers.words_answer (Some words.now) text)) }

@@ -2,7 +2,6 @@
 
 use super::*;
 use std::alloc::Global;
-use std::process::Abort;
 use std::test::Fail;
 
 fn connect(alloc: Global, client: &str) -> Result<Packet, NoMemory> {
@@ -71,152 +70,164 @@ fn suback(alloc: Global) -> Result<Packet, NoMemory> {
     Ok(Packet::SubAck { id: 6, codes })
 }
 
-/// What stands in front of a splitter that was fed these bytes.
-fn front(alloc: Global, bytes: &[u8]) -> Result<Next, NoMemory> {
-    let mut splitter = Splitter::new(alloc);
-    splitter.feed(bytes)?;
-    splitter.next()
+/// The call had memory, and its answer is this.
+fn gives(splitter: &mut Splitter, want: &Next) -> bool {
+    match splitter.next() {
+        Ok(next) => next == *want,
+        Err(_) => false,
+    }
 }
 
-/// The packet is sound, its bytes are these, they are read as it, and its copy is equal to it.
-fn shows(rt: &impl Abort, alloc: Global, packet: &Packet, want: &[u8]) -> Result<(), Fail> {
-    assert!(rt; packet.is_sound(), "at {packet:?}");
-    assert_eq!(rt; spelled_len(packet), want.len());
+fn takes(splitter: &mut Splitter, piece: &[u8]) -> bool {
+    splitter.feed(piece).is_ok()
+}
+
+/// These bytes alone are answered so.
+fn is_answered(alloc: Global, bytes: &[u8], want: &Next) -> bool {
+    let mut splitter = Splitter::new(alloc);
+    takes(&mut splitter, bytes) && gives(&mut splitter, want)
+}
+
+/// The packet is sound, and has these bytes, which are fewer than 64.
+fn is_spelled(packet: &Packet, want: &[u8]) -> bool {
+    if !packet.is_sound() || spelled_len(packet) != want.len() {
+        return false;
+    }
     let mut out = [0xFF; 64];
-    assert_eq!(rt; encode(packet, out.as_mut_slice()), Ok(want.len()));
-    assert!(rt; want.len() <= out.len());
-    assert_eq!(rt; &out[..want.len()], want);
-    let copy = packet.copy(alloc)?;
-    assert_eq!(rt; &copy, packet);
-    assert_eq!(rt; front(alloc, want)?, Next::Packet(copy));
-    Ok(())
+    match encode(packet, out.as_mut_slice()) {
+        Ok(len) => out.get(..len) == Some(want),
+        Err(_) => false,
+    }
+}
+
+fn is_copied(alloc: Global, packet: &Packet) -> bool {
+    match packet.copy(alloc) {
+        Ok(copy) => copy == *packet,
+        Err(_) => false,
+    }
+}
+
+/// The packet has these bytes, they are read as it, and its copy is equal to it.
+fn shows(alloc: Global, made: Result<Packet, NoMemory>, want: &[u8]) -> bool {
+    match made {
+        Ok(packet) => {
+            is_spelled(&packet, want)
+                && is_copied(alloc, &packet)
+                && is_answered(alloc, want, &Next::Packet(packet))
+        }
+        Err(_) => false,
+    }
 }
 
 #[test]
-fn a_connect_has_these_bytes(rt: HostRuntime) -> Result<(), Fail> {
+fn a_connect_has_these_bytes(rt: HostRuntime) {
     let alloc = rt.alloc();
-    let plain = connect(alloc, "dev")?;
     let want = b"\x10\x0F\x00\x04MQTT\x04\x00\x00\x3C\x00\x03dev";
-    shows(&rt, alloc, &plain, want.as_slice())?;
-    let full = full_connect(alloc)?;
+    assert!(rt; shows(alloc, connect(alloc, "dev"), want.as_slice()));
     let want =
         b"\x10\x20\x00\x04MQTT\x04\xEE\x00\x09\x00\x03dev\x00\x04gone\x00\x01x\x00\x02me\x00\x02pw";
-    shows(&rt, alloc, &full, want.as_slice())
+    assert!(rt; shows(alloc, full_connect(alloc), want.as_slice()));
 }
 
 #[test]
-fn a_publish_has_these_bytes(rt: HostRuntime) -> Result<(), Fail> {
+fn a_publish_has_these_bytes(rt: HostRuntime) {
     let alloc = rt.alloc();
-    let once = publish(alloc, true, Qos::ExactlyOnce, 1, "a", b"x".as_slice())?;
-    shows(&rt, alloc, &once, b"\x3C\x06\x00\x01a\x00\x01x".as_slice())
+    let once = publish(alloc, true, Qos::ExactlyOnce, 1, "a", b"x".as_slice());
+    assert!(rt; shows(alloc, once, b"\x3C\x06\x00\x01a\x00\x01x".as_slice()));
 }
 
 #[test]
-fn subscriptions_have_these_bytes(rt: HostRuntime) -> Result<(), Fail> {
+fn subscriptions_have_these_bytes(rt: HostRuntime) {
     let alloc = rt.alloc();
-    let asks = subscribe(alloc)?;
-    shows(
-        &rt,
-        alloc,
-        &asks,
-        b"\x82\x08\x00\x05\x00\x03a/+\x02".as_slice(),
-    )?;
-    let granted = suback(alloc)?;
-    shows(&rt, alloc, &granted, b"\x90\x04\x00\x06\x00\x80".as_slice())?;
-    let filters = unsubscribe(alloc)?;
-    shows(
-        &rt,
-        alloc,
-        &filters,
-        b"\xA2\x07\x00\x07\x00\x03a/+".as_slice(),
-    )
+    let want = b"\x82\x08\x00\x05\x00\x03a/+\x02".as_slice();
+    assert!(rt; shows(alloc, subscribe(alloc), want));
+    let want = b"\x90\x04\x00\x06\x00\x80".as_slice();
+    assert!(rt; shows(alloc, suback(alloc), want));
+    let want = b"\xA2\x07\x00\x07\x00\x03a/+".as_slice();
+    assert!(rt; shows(alloc, unsubscribe(alloc), want));
 }
 
 #[test]
-fn acknowledgements_have_these_bytes(rt: HostRuntime) -> Result<(), Fail> {
+fn acknowledgements_have_these_bytes(rt: HostRuntime) {
     let alloc = rt.alloc();
-    shows(
-        &rt,
-        alloc,
-        &Packet::PubAck { id: 1 },
-        [0x40, 2, 0, 1].as_slice(),
-    )?;
-    shows(
-        &rt,
-        alloc,
-        &Packet::PubRec { id: 2 },
-        [0x50, 2, 0, 2].as_slice(),
-    )?;
-    shows(
-        &rt,
-        alloc,
-        &Packet::PubRel { id: 258 },
-        [0x62, 2, 1, 2].as_slice(),
-    )?;
-    shows(
-        &rt,
-        alloc,
-        &Packet::PubComp { id: 4 },
-        [0x70, 2, 0, 4].as_slice(),
-    )?;
-    shows(
-        &rt,
-        alloc,
-        &Packet::UnsubAck { id: 8 },
-        [0xB0, 2, 0, 8].as_slice(),
-    )?;
+    let packet = Packet::PubAck { id: 1 };
+    assert!(rt; shows(alloc, Ok(packet), [0x40, 2, 0, 1].as_slice()));
+    let packet = Packet::PubRec { id: 2 };
+    assert!(rt; shows(alloc, Ok(packet), [0x50, 2, 0, 2].as_slice()));
+    let packet = Packet::PubRel { id: 258 };
+    assert!(rt; shows(alloc, Ok(packet), [0x62, 2, 1, 2].as_slice()));
+    let packet = Packet::PubComp { id: 4 };
+    assert!(rt; shows(alloc, Ok(packet), [0x70, 2, 0, 4].as_slice()));
+    let packet = Packet::UnsubAck { id: 8 };
+    assert!(rt; shows(alloc, Ok(packet), [0xB0, 2, 0, 8].as_slice()));
     let present = true;
-    let accepted = Packet::ConnAck { present, code: 0 };
-    shows(&rt, alloc, &accepted, [0x20, 2, 1, 0].as_slice())
+    let packet = Packet::ConnAck { present, code: 0 };
+    assert!(rt; shows(alloc, Ok(packet), [0x20, 2, 1, 0].as_slice()));
 }
 
 #[test]
-fn empty_packets_have_these_bytes(rt: HostRuntime) -> Result<(), Fail> {
+fn empty_packets_have_these_bytes(rt: HostRuntime) {
     let alloc = rt.alloc();
-    shows(&rt, alloc, &Packet::PingReq, [0xC0, 0].as_slice())?;
-    shows(&rt, alloc, &Packet::PingResp, [0xD0, 0].as_slice())?;
-    shows(&rt, alloc, &Packet::Disconnect, [0xE0, 0].as_slice())
+    assert!(rt; shows(alloc, Ok(Packet::PingReq), [0xC0, 0].as_slice()));
+    assert!(rt; shows(alloc, Ok(Packet::PingResp), [0xD0, 0].as_slice()));
+    assert!(rt; shows(alloc, Ok(Packet::Disconnect), [0xE0, 0].as_slice()));
+}
+
+/// A buffer of eight bytes is too short for this packet of nine, and stays as it was; one of nine
+/// is not.
+fn is_left_alone(packet: &Packet) -> bool {
+    if !packet.is_sound() {
+        return false;
+    }
+    let mut out = [0xFF; 9];
+    let (short, _) = out.as_mut_slice().split_at_mut(8);
+    let answer = encode(packet, short);
+    let same = out == [0xFF; 9];
+    same && answer == Err(TooSmall { needed: 9 }) && encode(packet, out.as_mut_slice()) == Ok(9)
 }
 
 #[test]
 fn a_short_buffer_stays_as_it_was(rt: HostRuntime) -> Result<(), Fail> {
-    let packet = publish(
-        rt.alloc(),
-        false,
-        Qos::AtMostOnce,
-        0,
-        "a/b",
-        b"hi".as_slice(),
-    )?;
-    assert!(rt; packet.is_sound());
-    let mut out = [0xFF; 9];
-    assert_eq!(rt; encode(&packet, &mut out[..8]), Err(TooSmall { needed: 9 }));
-    assert_eq!(rt; out, [0xFF; 9]);
-    assert_eq!(rt; encode(&packet, out.as_mut_slice()), Ok(9));
+    let alloc = rt.alloc();
+    let packet = publish(alloc, false, Qos::AtMostOnce, 0, "a/b", b"hi".as_slice())?;
+    assert!(rt; is_left_alone(&packet));
     Ok(())
 }
 
-/// A PUBLISH whose remaining length is `payload` and three bytes for its topic.
-fn shows_remaining_length(
-    rt: &impl Abort,
-    alloc: Global,
-    payload: usize,
-    want: &[u8],
-) -> Result<(), Fail> {
+/// A PUBLISH with so many bytes of payload, whose topic takes three.
+fn padded(alloc: Global, payload: usize) -> Result<Packet, NoMemory> {
     let bytes = vec![in alloc; 7u8; payload]?;
-    let packet = publish(alloc, false, Qos::AtMostOnce, 0, "t", bytes.as_slice())?;
-    assert!(rt; packet.is_sound());
-    let mut out = vec![in alloc; 0u8; spelled_len(&packet)]?;
-    let count = encode(&packet, out.as_mut_slice());
-    assert_eq!(rt; count, Ok(out.len()));
-    assert!(rt; want.len() < out.len());
-    assert_eq!(rt; &out[1..=want.len()], want, "at {payload}");
-    assert_eq!(rt; front(alloc, out.as_slice())?, Next::Packet(packet));
-    Ok(())
+    publish(alloc, false, Qos::AtMostOnce, 0, "t", bytes.as_slice())
+}
+
+/// All bytes of a packet, if it is sound.
+fn spelled(alloc: Global, packet: &Packet) -> Option<Vec<u8>> {
+    if !packet.is_sound() {
+        return None;
+    }
+    let mut out = vec![in alloc; 0u8; spelled_len(packet)].ok()?;
+    match encode(packet, out.as_mut_slice()) {
+        Ok(len) if len == out.len() => Some(out),
+        _ => None,
+    }
+}
+
+/// Behind the first byte stand these, and what is read is the packet again.
+fn shows_remaining_length(alloc: Global, payload: usize, want: &[u8]) -> bool {
+    let Ok(packet) = padded(alloc, payload) else {
+        return false;
+    };
+    match spelled(alloc, &packet) {
+        Some(bytes) => {
+            bytes.get(1..).is_some_and(|rest| rest.starts_with(want))
+                && is_answered(alloc, bytes.as_slice(), &Next::Packet(packet))
+        }
+        None => false,
+    }
 }
 
 #[test]
-fn the_remaining_length_has_these_bytes(rt: HostRuntime) -> Result<(), Fail> {
+fn the_remaining_length_has_these_bytes(rt: HostRuntime) {
     let alloc = rt.alloc();
     for (payload, want) in [
         (124, b"\x7F".as_slice()),
@@ -225,40 +236,43 @@ fn the_remaining_length_has_these_bytes(rt: HostRuntime) -> Result<(), Fail> {
         (16380, b"\xFF\x7F".as_slice()),
         (16381, b"\x80\x80\x01".as_slice()),
     ] {
-        shows_remaining_length(&rt, alloc, payload, want)?;
+        assert!(rt;
+            shows_remaining_length(alloc, payload, want),
+            "at {payload}"
+        );
     }
-    Ok(())
+}
+
+fn is_sound(made: Result<Packet, NoMemory>) -> Option<bool> {
+    match made {
+        Ok(packet) => Some(packet.is_sound()),
+        Err(_) => None,
+    }
 }
 
 #[test]
-fn a_packet_may_have_as_many_bytes_as_the_limit(rt: HostRuntime) -> Result<(), Fail> {
+fn a_packet_may_have_as_many_bytes_as_the_limit(rt: HostRuntime) {
     let alloc = rt.alloc();
     // Seven bytes: the first, three of the remaining length, and the topic with its length.
-    for (len, want) in [(PACKET_LIMIT - 7, true), (PACKET_LIMIT - 6, false)] {
-        let payload = vec![in alloc; 7u8; len]?;
-        let packet = publish(alloc, false, Qos::AtMostOnce, 0, "t", payload.as_slice())?;
-        assert_eq!(rt; packet.is_sound(), want);
-    }
-    Ok(())
+    assert_eq!(rt; is_sound(padded(alloc, PACKET_LIMIT - 7)), Some(true));
+    assert_eq!(rt; is_sound(padded(alloc, PACKET_LIMIT - 6)), Some(false));
 }
 
 #[test]
-fn fields_out_of_range_are_not_sound(rt: HostRuntime) -> Result<(), Fail> {
+fn fields_out_of_range_are_not_sound(rt: HostRuntime) {
     let alloc = rt.alloc();
-    let zero = connect(alloc, "a\0b")?;
-    assert!(rt; !zero.is_sound());
-    let repeated = publish(alloc, true, Qos::AtMostOnce, 0, "a", b"".as_slice())?;
-    assert!(rt; !repeated.is_sound());
-    let empty = Packet::Subscribe {
-        id: 1,
-        asks: Asks::new(alloc),
-    };
-    assert!(rt; !empty.is_sound());
-    Ok(())
+    assert_eq!(rt; is_sound(connect(alloc, "a\0b")), Some(false));
+    let repeated = publish(alloc, true, Qos::AtMostOnce, 0, "a", b"".as_slice());
+    assert_eq!(rt; is_sound(repeated), Some(false));
+    let asks = Asks::new(alloc);
+    assert_eq!(rt;
+        is_sound(Ok(Packet::Subscribe { id: 1, asks })),
+        Some(false)
+    );
 }
 
 #[test]
-fn these_bytes_are_bad(rt: HostRuntime) -> Result<(), Fail> {
+fn these_bytes_are_bad(rt: HostRuntime) {
     let alloc = rt.alloc();
     for bytes in [
         // Types 0 and 15, flags that a type doesn't have, QoS 3, DUP at QoS 0.
@@ -291,61 +305,77 @@ fn these_bytes_are_bad(rt: HostRuntime) -> Result<(), Fail> {
         // Protocol level 3.
         b"\x10\x0C\x00\x04MQTT\x03\x00\x00\x00\x00\x00".as_slice(),
     ] {
-        assert_eq!(rt; front(alloc, bytes)?, Next::Bad { at: 0 }, "at {bytes:?}");
+        assert!(rt;
+            is_answered(alloc, bytes, &Next::Bad { at: 0 }),
+            "at {bytes:?}"
+        );
     }
-    Ok(())
 }
 
 #[test]
-fn a_verdict_comes_behind_the_packets_and_stays(rt: HostRuntime) -> Result<(), Fail> {
+fn a_verdict_comes_behind_the_packets_and_stays(rt: HostRuntime) {
     let alloc = rt.alloc();
     let mut splitter = Splitter::new(alloc);
-    splitter.feed(b"\xD0\x00\x36".as_slice())?;
-    splitter.feed(b"\x00".as_slice())?;
-    assert_eq!(rt; splitter.next()?, Next::Packet(Packet::PingResp));
-    assert_eq!(rt; splitter.next()?, Next::Bad { at: 2 });
-    splitter.feed(b"\xD0\x00".as_slice())?;
-    assert_eq!(rt; splitter.next()?, Next::Bad { at: 2 });
-    let long = front(alloc, b"\x30\xFF\xFF\xFF\x7F".as_slice())?;
+    assert!(rt; takes(&mut splitter, b"\xD0\x00\x36".as_slice()));
+    assert!(rt; takes(&mut splitter, b"\x00".as_slice()));
+    assert!(rt; gives(&mut splitter, &Next::Packet(Packet::PingResp)));
+    assert!(rt; gives(&mut splitter, &Next::Bad { at: 2 }));
+    assert!(rt; takes(&mut splitter, b"\xD0\x00".as_slice()));
+    assert!(rt; gives(&mut splitter, &Next::Bad { at: 2 }));
+}
+
+#[test]
+fn a_packet_that_is_too_long_says_its_length(rt: HostRuntime) {
+    let long = b"\x30\xFF\xFF\xFF\x7F".as_slice();
     let len = 268_435_460;
-    assert_eq!(rt; long, Next::TooLong { at: 0, len });
-    Ok(())
+    assert!(rt; is_answered(rt.alloc(), long, &Next::TooLong { at: 0, len }));
 }
 
 /// A PUBLISH of nine bytes and a PINGRESP.
 const STREAM: [u8; 11] = *b"\x30\x07\x00\x03a/bhi\xD0\x00";
 
-#[test]
-fn a_stream_has_its_packets_wherever_it_is_cut(rt: HostRuntime) -> Result<(), Fail> {
-    let alloc = rt.alloc();
-    for cut in 0..=STREAM.len() {
-        let (front, back) = STREAM.as_slice().split_at(cut);
-        let mut splitter = Splitter::new(alloc);
-        splitter.feed(front)?;
-        splitter.feed(back)?;
-        let message = publish(alloc, false, Qos::AtMostOnce, 0, "a/b", b"hi".as_slice())?;
-        assert_eq!(rt; splitter.next()?, Next::Packet(message));
-        assert_eq!(rt; splitter.next()?, Next::Packet(Packet::PingResp));
-        assert_eq!(rt; splitter.next()?, Next::More);
-        assert_eq!(rt; splitter.held(), 0);
+fn gives_message(alloc: Global, splitter: &mut Splitter) -> bool {
+    match publish(alloc, false, Qos::AtMostOnce, 0, "a/b", b"hi".as_slice()) {
+        Ok(message) => gives(splitter, &Next::Packet(message)),
+        Err(_) => false,
     }
-    Ok(())
+}
+
+/// Two pieces together have the two packets of the stream, and nothing behind them.
+fn have_both(alloc: Global, front: &[u8], back: &[u8]) -> bool {
+    let mut splitter = Splitter::new(alloc);
+    takes(&mut splitter, front)
+        && takes(&mut splitter, back)
+        && gives_message(alloc, &mut splitter)
+        && gives(&mut splitter, &Next::Packet(Packet::PingResp))
+        && gives(&mut splitter, &Next::More)
+        && splitter.held() == 0
 }
 
 #[test]
-fn a_stream_may_come_byte_by_byte(rt: HostRuntime) -> Result<(), Fail> {
+fn a_stream_has_its_packets_wherever_it_is_cut(rt: HostRuntime) {
+    for cut in 0..=STREAM.len() {
+        let (front, back) = STREAM.as_slice().split_at(cut);
+        assert!(rt; have_both(rt.alloc(), front, back), "at {cut}");
+    }
+}
+
+/// What a stream gives behind the byte with this index.
+fn is_next(alloc: Global, splitter: &mut Splitter, index: usize) -> bool {
+    match index {
+        8 => gives_message(alloc, splitter),
+        9 => gives(splitter, &Next::More) && splitter.held() == 1,
+        10 => gives(splitter, &Next::Packet(Packet::PingResp)),
+        _ => gives(splitter, &Next::More),
+    }
+}
+
+#[test]
+fn a_stream_may_come_byte_by_byte(rt: HostRuntime) {
     let alloc = rt.alloc();
     let mut splitter = Splitter::new(alloc);
     for (index, byte) in STREAM.iter().enumerate() {
-        splitter.feed([*byte].as_slice())?;
-        let next = splitter.next()?;
-        let message = publish(alloc, false, Qos::AtMostOnce, 0, "a/b", b"hi".as_slice())?;
-        match index {
-            8 => assert_eq!(rt; next, Next::Packet(message)),
-            9 => assert_eq!(rt; splitter.held(), 1),
-            10 => assert_eq!(rt; next, Next::Packet(Packet::PingResp)),
-            _ => assert_eq!(rt; next, Next::More),
-        }
+        assert!(rt; takes(&mut splitter, [*byte].as_slice()));
+        assert!(rt; is_next(alloc, &mut splitter, index), "at {index}");
     }
-    Ok(())
 }

@@ -1,6 +1,5 @@
 -- What a finished run prints is the answer of its replay.
-use Rattle.std.proofs.Common.{◌≡◌, ◌≢◌, ℕ, List, reverse, Some, sym, ap, ◌∙◌, arith}
-use Rattle.std.proofs.lemmas.List.{reverse-reverse}
+use Rattle.std.proofs.Common.{◌≡◌, ◌≢◌, List, reverse, Some, ap, ◌∙◌, arith}
 use Rattle.broker_tape.specs.declared.tape.Item.{Item}
 use Rattle.agent_journal.specs.declared.entry.Entry.{Entry}
 use Rattle.agent_journal.specs.declared.ending.Ending.{Ending}

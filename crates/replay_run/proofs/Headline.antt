@@ -1,5 +1,5 @@
 -- What a replay prints is a history.
-use Rattle.std.proofs.Common.{◌≡◌, ◌≢◌, ℕ, List, Option, Some, refl, sym, ap, ◌∙◌, subst}
+use Rattle.std.proofs.Common.{◌≡◌, ◌≢◌, ℕ, List, Option, Some, subst}
 use Rattle.std.specs.List.{AllByRecursion}
 use Rattle.broker_tape.specs.declared.tape.Item.{Item}
 use Rattle.broker_tape.specs.Given.{GivesBytes}
