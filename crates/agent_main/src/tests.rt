@@ -5,6 +5,7 @@ use super::*;
 use agent_link::{MemSink, MemSource};
 use std::test::Fail;
 
+mod deliveries;
 mod links;
 mod replays;
 

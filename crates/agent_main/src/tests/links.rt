@@ -65,7 +65,13 @@ fn a_connection_may_break_at_each_byte(rt: HostRuntime) -> Result<(), Fail> {
             _ => PRINTED,
         };
         assert!(rt;
-            answers(alloc, ["replay", "--client", "dev"].as_slice(), text.as_bytes(), want, 0)?,
+            answers(
+                alloc,
+                ["replay", "--client", "dev"].as_slice(),
+                text.as_bytes(),
+                want,
+                0
+            )?,
             "at {room}"
         );
     }

@@ -124,7 +124,18 @@ fn requests_have_their_outcomes(rt: HostRuntime) -> Result<(), Fail> {
             0,
         ),
         (
-            ["replay", "--client", "dev", "--keep-alive", "1", "--tick", "1000", "--reopen", "0"].as_slice(),
+            [
+                "replay",
+                "--client",
+                "dev",
+                "--keep-alive",
+                "1",
+                "--tick",
+                "1000",
+                "--reopen",
+                "0",
+            ]
+            .as_slice(),
             b"tasks 1\n0 listen 1\ntape\nopen\nhear 20020000\nquiet 20\n".as_slice(),
             b"@0 opened\n  send 100f00044d515454040000010003646576\n@1000 arrived 20020000\n@2000 tick\n  send c000\n@7000 broke keepalive\n@8000 gaveup\n  closed 0\n@9000 take 0 0 leave\ntask 0 sent 0 got 0 messages 0\nfault link\n".as_slice(),
             3,
