@@ -2,7 +2,7 @@
 use Rattle.std.proofs.Common.{◌≡◌, ℕ, ◌+◌, ◌*◌, Bool, true, false, [], ◌∷◌, Option, Some, is_some, refl, ◌∙◌}
 use Rattle.std.specs.Prelude.{◌&&◌, ◌==◌, not, nat_lt, nat_le}
 use Rattle.mqtt_packet.specs.declared.packet.Packet.TheVariants as p
-use Rattle.agent_journal.specs.Rows.{connect, all_left, is_none}
+use Rattle.agent_table.specs.Breaks.{connect, all_left, is_none}
 use Rattle.agent_journal.specs.declared.effect.Effect.TheVariants as f
 use Rattle.agent_journal.specs.declared.setup.Setup.{Setup}
 use Rattle.agent_journal.specs.declared.setup.Phase.{Phase}

@@ -4,7 +4,7 @@ use Rattle.std.specs.Prelude.{◌&&◌, slice_index_or}
 use Rattle.std.specs.List.{list_all}
 use Rattle.std.proofs.lemmas.List.Folds.{list_all_more}
 use Rattle.std.proofs.lemmas.List.{take_all}
-use Rattle.agent_journal.specs.Rows.{all_left}
+use Rattle.agent_table.specs.Breaks.{all_left}
 
 and_swapped : (a b : Bool) → (a && b) ≡ (b && a)
 and_swapped true true = refl

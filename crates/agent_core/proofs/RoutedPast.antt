@@ -12,7 +12,7 @@ use Rattle.agent_journal.specs.declared.entry.Entry.{Entry}
 use Rattle.agent_journal.specs.declared.setup.Setup.{Setup}
 use Rattle.agent_journal.specs.Readings.{Pending, pending_of, opens, opened_by, sent_id, stays_open, takes_of, takes_behind, has_left}
 use Rattle.agent_journal.specs.Requests.{is_valid}
-use Rattle.agent_journal.proofs.Soundness.{both}
+use Rattle.std.proofs.lemmas.Bool.{and_parts}
 use Rattle.agent_table.specs.Histories.{IsLegalPast, readings, row, effects_of}
 use Rattle.agent_table.specs.Filters.{is_one_of}
 use Rattle.agent_table.specs.Readings.{Readings}
@@ -40,9 +40,9 @@ taken_next : (s : Setup) (l : Sizes) (r : Readings) (at task seq : ℕ) (request
 unfolding row_of take_row may_take
 taken_next s l r at task seq request some =
     let may = (some_when (nat_lt task s.tasks && not (r.left task) && (seq == r.takes task) && is_valid request) _ (some_when _ _ some).1).0 in
-    let two = (both (nat_lt task s.tasks && not (r.left task) && (seq == r.takes task)) (is_valid request) may).0 in
-    let parts = both (nat_lt task s.tasks && not (r.left task)) (seq == r.takes task) two in
-    (eqb-true seq (r.takes task) parts.1, stays_off (r.left task) (both (nat_lt task s.tasks) (not (r.left task)) parts.0).1)
+    let two = (and_parts (nat_lt task s.tasks && not (r.left task) && (seq == r.takes task)) (is_valid request) may).0 in
+    let parts = and_parts (nat_lt task s.tasks && not (r.left task)) (seq == r.takes task) two in
+    (eqb-true seq (r.takes task) parts.1, stays_off (r.left task) (and_parts (nat_lt task s.tasks) (not (r.left task)) parts.0).1)
 
 -- what a cause says of its Take, if it is one
 abbrev pub IsNext : List Entry → Cause → Type 0

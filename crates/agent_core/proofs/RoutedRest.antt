@@ -24,7 +24,7 @@ use Rattle.agent_journal.specs.declared.setup.Setup.{Setup}
 use Rattle.agent_journal.specs.declared.setup.Phase.{Phase}
 use Rattle.agent_journal.specs.declared.setup.Phase.TheVariants.{Down, Opening, Up, Spilled, Off}
 use Rattle.agent_journal.specs.Readings.{Pending, pending_of, opens, stays_open, completes}
-use Rattle.agent_journal.specs.Rows.{is_none}
+use Rattle.agent_table.specs.Breaks.{is_none}
 use Rattle.agent_table.specs.Arrivals as arrivals
 use Rattle.agent_table.specs.Breaks as breaks
 use Rattle.agent_table.specs.Deliveries.{is_among}

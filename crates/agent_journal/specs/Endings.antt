@@ -1,16 +1,13 @@
 -- How a run ends: by the entry behind which the phase was Off for the first time.
-use Rattle.std.specs.Prelude.{ℕ, ◌==◌, Bool, true, false, List, [], ◌∷◌, Option, Some, None, if◌then◌else◌, codes}
+use Rattle.std.specs.Prelude.{ℕ, ◌==◌, Bool, true, false, List, Option, Some, None, if◌then◌else◌, codes}
 use Rattle.mqtt_packet.specs.declared.packet.Packet.{Packet}
 use Rattle.mqtt_packet.specs.declared.packet.Packet.TheVariants as p
 use Rattle.agent_journal.specs.declared.entry.Cause.{Cause}
 use Rattle.agent_journal.specs.declared.entry.Cause.TheVariants as c
-use Rattle.agent_journal.specs.declared.entry.Entry.{Entry}
 use Rattle.agent_journal.specs.declared.ending.Ending.{Ending}
 use Rattle.agent_journal.specs.declared.ending.Ending.TheVariants as e
 use Rattle.agent_journal.specs.declared.setup.Phase.{Phase}
 use Rattle.agent_journal.specs.declared.setup.Phase.TheVariants.{Down, Opening, Up, Spilled, Off}
-use Rattle.agent_journal.specs.declared.setup.Setup.{Setup}
-use Rattle.agent_journal.specs.Histories.{phase_of}
 
 abbrev pub by_code : ℕ → Ending
 by_code code = if code == 0 then e.Held else e.Refused code
@@ -59,10 +56,6 @@ is_off Off = true
 -- the ending behind one more entry, with the phases before and behind it
 abbrev pub ending_behind : Phase → Phase → Cause → Option Ending → Option Ending
 ending_behind before behind cause ending = if is_off before then ending else if is_off behind then Some (ending_by before cause) else None
-
-abbrev pub ending_of : Setup → List Entry → Option Ending
-ending_of s [] = None
-ending_of s (entry ∷ past) = ending_behind (phase_of s past) (phase_of s (entry ∷ past)) entry.cause (ending_of s past)
 
 -- the exit status
 abbrev pub status : Ending → ℕ

@@ -1,5 +1,5 @@
--- What the agent's table reads off a journal. The past of a journal is its entries with the newest first. Each reading
--- is a count or a filter of the past; only the phase is read off the table itself (Histories).
+-- What is read off a journal. The past of a journal is its entries with the newest first. Each reading is a count or a
+-- filter of the past.
 use Rattle.std.specs.Prelude.{ℕ, ◌+◌, Bool, true, false, ◌&&◌, ◌||◌, not, ◌==◌, List, [], ◌∷◌, ◌++◌, Option, Some, None, if◌then◌else◌, filter}
 use Rattle.std.specs.List.{list_any}
 use Rattle.mqtt_packet.specs.declared.qos.Qos.TheVariants.{AtMostOnce, AtLeastOnce, ExactlyOnce}
@@ -13,7 +13,6 @@ use Rattle.agent_journal.specs.declared.entry.Cause.TheVariants as c
 use Rattle.agent_journal.specs.declared.entry.Entry.{Entry}
 use Rattle.agent_journal.specs.declared.effect.Effect.{Effect}
 use Rattle.agent_journal.specs.declared.effect.Effect.TheVariants as f
-use Rattle.agent_journal.specs.declared.setup.Phase.{Phase}
 
 -- An open command: the identifier of its packet, its task and number, and what it asks.
 pub record Pending : Type 0 where
@@ -21,22 +20,6 @@ pub record Pending : Type 0 where
   pub task : ℕ
   pub seq : ℕ
   pub request : Request
-
--- All readings of one moment, as the table takes them.
-pub record Readings : Type 0 where
-  pub phase : Phase
-  -- the time of the newest entry
-  pub last_time : ℕ
-  -- how many requests of each task were taken, Leave included
-  pub takes : ℕ → ℕ
-  -- whether the Leave of a task was taken
-  pub left : ℕ → Bool
-  -- how many connections or openings broke since the last accepted CONNACK
-  pub breaks : ℕ
-  -- how many CONNACKs accepted
-  pub accepted : ℕ
-  -- the open commands, in the order in which they were taken
-  pub pending : List Pending
 
 abbrev pub last_time_of : List Entry → ℕ
 last_time_of [] = 0
@@ -194,15 +177,3 @@ stays_open effects command = not (list_any (completes command.task command.seq) 
 abbrev pub pending_of : List Entry → List Pending
 pending_of [] = []
 pending_of (e ∷ past) = filter (stays_open e.effects) (pending_of past ++ opens e.cause e.effects)
-
--- the readings of a past whose phase is known
-abbrev pub read_at : Phase → List Entry → Readings
-read_at phase past = record {
-  phase = phase;
-  last_time = last_time_of past;
-  takes = λ t. takes_of t past;
-  left = λ t. has_left t past;
-  breaks = breaks_of past;
-  accepted = accepted_of past;
-  pending = pending_of past;
-}

@@ -1,5 +1,5 @@
-//! The history of the sequential agent: its requests, causes, effects and entries, the table that
-//! makes a history legal, and the texts of scripts and journals.
+//! The history of the sequential agent: its requests, causes, effects and entries, what is read off
+//! it, and its text; and what a script's lines are.
 #![tactic(auto)]
 
 mod effect;
@@ -17,13 +17,13 @@ mod write;
 pub use effect::Effect;
 pub use ending::Ending;
 pub use entry::{Cause, Entry, Why};
-pub use laws::{commands_complete_once, first_example, has_sound_packets};
+pub use laws::first_example;
 use list_types::Seq;
 pub use message::Message;
 pub use outcome::Outcome;
 pub use parts::{Part, write_parts};
 pub use request::Request;
-pub use script::{Line, Script, ScriptFault, Step, read_script};
+pub use script::{Line, Script, ScriptFault, Step};
 pub use setup::{Phase, Setup};
 pub use write::write_entry;
 

@@ -57,14 +57,14 @@ impl Request {
     }
 }
 
-#[tactic(auto, using(crate::proofs::Utf8::in_utf8))]
+#[tactic(auto, using(mqtt_packet::proofs::Strings::in_utf8))]
 fn is_topic(text: &Text) -> bool
     ensures { result ≡ requests.is_topic text.now }
 {
     text.len() <= 1024 && is_name(text.as_str())
 }
 
-#[tactic(auto, using(crate::proofs::Utf8::in_utf8))]
+#[tactic(auto, using(mqtt_packet::proofs::Strings::in_utf8))]
 fn is_wanted(text: &Text) -> bool
     ensures { result ≡ requests.is_wanted text.now }
 {

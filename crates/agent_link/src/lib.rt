@@ -9,7 +9,6 @@ mod memory;
 mod page;
 mod sink;
 mod source;
-mod tape;
 
 pub use clock::{Clock, StepClock};
 pub use fault::Fault;
@@ -17,11 +16,9 @@ pub use link::{Heard, Link};
 pub use memory::plan::FailPlan;
 pub use memory::sink::MemSink;
 pub use memory::source::MemSource;
-pub use memory::tape_link::TapeLink;
 pub use page::Page;
 pub use sink::{Sink, write_all};
 pub use source::{Source, read_all};
-pub use tape::{Item, Tape, TapeFault, read_tape};
 
 #[cfg(test)]
 mod tests;

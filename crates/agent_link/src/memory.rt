@@ -3,4 +3,3 @@
 pub mod plan;
 pub mod sink;
 pub mod source;
-pub mod tape_link;

@@ -18,8 +18,8 @@ use Rattle.agent_journal.specs.declared.setup.Phase.TheVariants.{Off}
 use Rattle.agent_journal.specs.Projections.{commands_of}
 use Rattle.agent_journal.specs.Readings.{Pending, pending_of, opens, stays_open, takes_of}
 use Rattle.agent_journal.specs.Wires.{sends}
-use Rattle.agent_journal.proofs.Once.{below, all_commands}
-use Rattle.agent_journal.proofs.Soundness.{both}
+use Rattle.agent_table.proofs.Commands.{below, all_commands}
+use Rattle.std.proofs.lemmas.Bool.{and_parts}
 use Rattle.agent_table.specs.Awaiting.{is_publish_of, is_release_of, sends_publish, sends_release, ends_waiting, awaits_completion}
 use Rattle.agent_table.specs.Deliveries.{publishes, is_among, is_open_publish, is_exactly_once, with_released, released_by, released_behind, released_of}
 use Rattle.agent_table.specs.Effects.{used}
@@ -182,7 +182,7 @@ find_open (command ∷ commands) n e = by (command.id == n && publishes is_exact
   where
     by : (b : Bool) → (command.id == n && publishes is_exactly_once command.request) ≡ b → (b || is_open_publish is_exactly_once commands n) ≡ true
         → (is_open_publish is_exactly_once commands n ≡ true → (other : Pending) × IsOneOf other commands × IsIt n other) → (other : Pending) × IsOneOf other (command ∷ commands) × IsIt n other
-    by true is e rest = let two = both (command.id == n) (publishes is_exactly_once command.request) is in (command, inl refl, record { id = eqb-true command.id n two.0; publish = two.1 })
+    by true is e rest = let two = and_parts (command.id == n) (publishes is_exactly_once command.request) is in (command, inl refl, record { id = eqb-true command.id n two.0; publish = two.1 })
     by false is e rest = let found = rest e in (found.0, inr found.1, found.2)
 
 own_numbers : (command : Pending) → is_command command.task command.seq command ≡ true
@@ -346,7 +346,7 @@ module _ (s : Setup) (l : Sizes) (past : List Entry) (e : Entry) (legal : IsLega
       by : (b : Bool) → (task == command.task && seq == command.seq) ≡ b → b ≡ false
       by false k = refl
       by true k =
-          let two = both (task == command.task) (seq == command.seq) k in
+          let two = and_parts (task == command.task) (seq == command.seq) k in
           let t : task ≡ command.task = eqb-true task command.task two.0 in
           let q : seq ≡ command.seq = eqb-true seq command.seq two.1 in
           let all : seq ≡ commands_of command.task past = next.0 ∙ all_commands task past next.1 ∙ ap (λ (u : ℕ). commands_of u past) t in
@@ -398,7 +398,7 @@ module _ (s : Setup) (l : Sizes) (past : List Entry) (e : Entry) (legal : IsLega
 
       by : (b : Bool) → sends_release n e.effects ≡ b → (b || (awaits_completion n past && not (ends_waiting n e.cause))) ≡ true → (is_among (released_of (e ∷ past)) n ≡ true) ⊎ (phase_of s l (e ∷ past) ≡ Off)
       by true is h = due_kept n (some_due s l r e.cause n e.effects fit is)
-      by false is h = let two = both (awaits_completion n past) (not (ends_waiting n e.cause)) h in on (kept.waits n two.0) two.1
+      by false is h = let two = and_parts (awaits_completion n past) (not (ends_waiting n e.cause)) h in on (kept.waits n two.0) two.1
 
   kept_on : IsKept s l (e ∷ past)
   kept_on = record { drawn = last_low (last_drawn_of past) (drawn_in e.effects) kept.drawn (all_low s l r e.cause e.effects fit); waits = waits_on }

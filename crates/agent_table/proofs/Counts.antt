@@ -8,7 +8,7 @@ use mathlib.Core.Logic.{inl, inr}
 use Rattle.agent_journal.specs.declared.outcome.Outcome.{Outcome}
 use Rattle.agent_journal.specs.declared.effect.Effect.{Effect}
 use Rattle.agent_journal.specs.Readings.{Pending, completes, stays_open}
-use Rattle.agent_journal.proofs.Soundness.{both}
+use Rattle.std.proofs.lemmas.Bool.{and_parts}
 use Rattle.agent_table.specs.Effects.{done}
 
 -- command q of task t
@@ -70,7 +70,7 @@ not_not false = refl
 -- a command of these two numbers stays open where no effect completes it
 pub stays_is : (t q : ℕ) (effects : List Effect) (c : Pending) → is_command t q c ≡ true → stays_open effects c ≡ (dones t q effects == 0)
 stays_is t q effects c e =
-    let parts = both (c.task == t) (c.seq == q) e in
+    let parts = and_parts (c.task == t) (c.seq == q) e in
     let task_is : c.task ≡ t = eqb-true c.task t parts.0 in
     let seq_is : c.seq ≡ q = eqb-true c.seq q parts.1 in
     ap not (any_count (completes c.task c.seq) effects) ∙ not_not (count_by (completes c.task c.seq) effects == 0) ∙ (λ i. count_by (completes (task_is i) (seq_is i)) effects == 0)

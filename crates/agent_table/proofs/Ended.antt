@@ -15,7 +15,7 @@ use Rattle.agent_journal.specs.declared.setup.Phase.{Phase}
 use Rattle.agent_journal.specs.declared.setup.Phase.TheVariants.{Down, Opening, Up, Spilled, Off}
 use Rattle.agent_journal.specs.Readings.{Pending, pending_of, opens, accepts, accepted_of}
 use Rattle.agent_journal.specs.Projections.{commands_of}
-use Rattle.agent_journal.proofs.Once.{below, answered_by}
+use Rattle.agent_table.proofs.Commands.{below, answered_by}
 use Rattle.agent_table.specs.Histories.{IsLegalPast, phase_of, phase_by, readings, row, effects_of}
 use Rattle.agent_table.specs.Laws.{EndsWithNoneOpen, CommandsCompleteOnce, open_of}
 use Rattle.agent_table.specs.Readings.{Readings}

@@ -23,9 +23,9 @@ use Rattle.agent_journal.specs.declared.setup.Setup.{Setup}
 use Rattle.agent_journal.specs.declared.setup.Phase.{Phase}
 use Rattle.agent_journal.specs.declared.setup.Phase.TheVariants.{Down, Opening, Up, Spilled, Off}
 use Rattle.agent_journal.specs.Readings.{Pending, completes, accepts}
-use Rattle.agent_journal.specs.Rows.{all_left, is_none}
-use Rattle.agent_journal.proofs.Soundness.{both}
-use Rattle.agent_journal.proofs.Once.{answered_in, answered_by}
+use Rattle.agent_table.specs.Breaks.{all_left, is_none}
+use Rattle.std.proofs.lemmas.Bool.{and_parts}
+use Rattle.agent_table.proofs.Commands.{answered_in, answered_by}
 use Rattle.agent_table.specs.Arrivals.{arrived_row, arrived_in, opening_row, up_row, connack_row, first_row, resumed_row, publish_row, message_row, puback_row, pubrec_row, pubcomp_row, suback_row, unsuback_row, awaited}
 use Rattle.agent_table.specs.Breaks.{opened_row, broke_row, fault_row, end_row, idle_row, bytes_row, keep_alive_row, in_full_row, gave_up_row, tick_row, finish_row, down}
 use Rattle.agent_table.specs.Deliveries.{is_among}
@@ -253,7 +253,7 @@ module _ (t q : ℕ) (s : Setup) (r : Readings) (before : Before t q s r) where
   leads_finish Opening = tt
   leads_finish Up =
       leads_when c.Finish (all_left s.tasks r.left && is_none r.pending) (to Off _)
-      (λ e. to_off c.Finish (f.Send p.Disconnect ∷ []) (let none = nothing_open r.pending (both (all_left s.tasks r.left) (is_none r.pending) e).1 in omega (arith, none)))
+      (λ e. to_off c.Finish (f.Send p.Disconnect ∷ []) (let none = nothing_open r.pending (and_parts (all_left s.tasks r.left) (is_none r.pending) e).1 in omega (arith, none)))
   leads_finish Spilled = tt
   leads_finish Off = tt
 

@@ -1,5 +1,6 @@
 pub mod Worked
 pub mod Counts
+pub mod Commands
 pub mod Completions
 pub mod Openings
 pub mod Once

@@ -11,8 +11,8 @@ use Rattle.agent_journal.specs.declared.effect.Effect.{Effect}
 use Rattle.agent_journal.specs.declared.setup.Setup.{Setup}
 use Rattle.agent_journal.specs.Readings.{pending_of, opens}
 use Rattle.agent_journal.specs.Projections.{commands_by, commands_of, completions_of}
-use Rattle.agent_journal.proofs.Once.{below, answered_in, answered_by, more_taken, none_more, all_commands}
-use Rattle.agent_journal.proofs.Soundness.{both}
+use Rattle.agent_table.proofs.Commands.{below, answered_in, answered_by, more_taken, none_more, all_commands}
+use Rattle.std.proofs.lemmas.Bool.{and_parts}
 use Rattle.agent_table.specs.Histories.{readings, row, effects_of}
 use Rattle.agent_table.specs.Laws.{EachIsOpenOrDone, NoneIsEarly, open_of}
 use Rattle.agent_table.specs.Readings.{Readings}
@@ -42,9 +42,9 @@ pub taken_next : (s : Setup) (l : Sizes) (r : Readings) (at task seq : ℕ) (req
 unfolding row_of take_row may_take
 taken_next s l r at task seq request some =
     let may = (some_when (nat_lt task s.tasks && not (r.left task) && (seq == r.takes task) && is_valid request) _ (some_when _ _ some).1).0 in
-    let two = (both (nat_lt task s.tasks && not (r.left task) && (seq == r.takes task)) (is_valid request) may).0 in
-    let parts = both (nat_lt task s.tasks && not (r.left task)) (seq == r.takes task) two in
-    (eqb-true seq (r.takes task) parts.1, stays_off (r.left task) (both (nat_lt task s.tasks) (not (r.left task)) parts.0).1)
+    let two = (and_parts (nat_lt task s.tasks && not (r.left task) && (seq == r.takes task)) (is_valid request) may).0 in
+    let parts = and_parts (nat_lt task s.tasks && not (r.left task)) (seq == r.takes task) two in
+    (eqb-true seq (r.takes task) parts.1, stays_off (r.left task) (and_parts (nat_lt task s.tasks) (not (r.left task)) parts.0).1)
 
 more_by : (s : Setup) (l : Sizes) (past : List Entry) (t q at : ℕ) (cause : Cause) → is_some (row s l past at cause) ≡ true → below q (commands_of t past) + answered_by t q cause ≡ below q (commands_of t past + commands_by t cause)
 more_by s l past t q at c.Opened some = none_more q (commands_of t past)

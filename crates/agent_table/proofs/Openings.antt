@@ -14,7 +14,7 @@ use Rattle.agent_journal.specs.declared.setup.Setup.{Setup}
 use Rattle.agent_journal.specs.declared.setup.Phase.{Phase}
 use Rattle.agent_journal.specs.declared.setup.Phase.TheVariants.{Down, Opening, Up, Spilled, Off}
 use Rattle.agent_journal.specs.Readings.{Pending, completes, sent_id, opened_by}
-use Rattle.agent_journal.proofs.Once.{answered_in}
+use Rattle.agent_table.proofs.Commands.{answered_in}
 use Rattle.agent_table.specs.Effects.{done, cancel_all, close, closed_below, fresh_id}
 use Rattle.agent_table.specs.Readings.{Readings}
 use Rattle.agent_table.specs.Rows.{Row, when}

@@ -9,7 +9,7 @@ use Rattle.agent_journal.specs.declared.entry.Cause.{Cause}
 use Rattle.agent_journal.specs.declared.entry.Cause.TheVariants as c
 use Rattle.agent_journal.specs.declared.entry.Entry.{Entry}
 use Rattle.agent_journal.specs.Readings.{pending_of}
-use Rattle.agent_journal.proofs.Soundness.{both}
+use Rattle.std.proofs.lemmas.Bool.{and_parts}
 use Rattle.agent_table.specs.Deliveries.{is_among, is_open_publish, is_exactly_once, released_by, released_behind, released_of}
 use Rattle.agent_table.specs.Laws.{WasReceived, ReleasedWereReceived}
 
@@ -52,7 +52,7 @@ by_case past e id n is cause h (inr same) = ([], past, e, refl, cause ∙ ap (λ
 
 by_test : (b : Bool) (past : List Entry) (e : Entry) (id n : ℕ) → (is_open_publish is_exactly_once (pending_of past) id && not (is_among (released_of past) id)) ≡ b → e.cause ≡ c.Arrived (p.PubRec id)
     → (is_among (released_of past) n ≡ true → WasReceived n past) → is_among (cond b (released_of past ++ id ∷ []) (released_of past)) n ≡ true → WasReceived n (e ∷ past)
-by_test true past e id n is cause h among = by_case past e id n (both (is_open_publish is_exactly_once (pending_of past) id) (not (is_among (released_of past) id)) is).0 cause h (behind_all (released_of past) id n among)
+by_test true past e id n is cause h among = by_case past e id n (and_parts (is_open_publish is_exactly_once (pending_of past) id) (not (is_among (released_of past) id)) is).0 cause h (behind_all (released_of past) id n among)
 by_test false past e id n is cause h among = later e past n (h among)
 
 by_packet : (past : List Entry) (e : Entry) (packet : Packet) (n : ℕ) → e.cause ≡ c.Arrived packet → (is_among (released_of past) n ≡ true → WasReceived n past)

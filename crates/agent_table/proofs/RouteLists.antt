@@ -9,7 +9,7 @@ use Rattle.std.proofs.lemmas.Map.Keys.{IsDistinct-cons, IsDistinct-head, IsDisti
 use Rattle.std.proofs.lemmas.Map.Made.{length-le_from_is_member}
 use Rattle.std.proofs.lemmas.Slice.Eq.{bytes_eq-Decides}
 use mathlib.Core.Logic.{inl, inr}
-use Rattle.agent_journal.proofs.Soundness.{both}
+use Rattle.std.proofs.lemmas.Bool.{and_parts}
 use Rattle.agent_table.specs.Routes.{Route, is_route, has_route, with_route, with_routes}
 use Rattle.agent_table.proofs.SoundRows.{all_both, all_kept}
 
@@ -17,7 +17,7 @@ use Rattle.agent_table.proofs.SoundRows.{all_both, all_kept}
 
 route_is : (a b : Route) → is_route a b ≡ true → a ≡ b
 route_is a b e =
-    let two = both (a.task == b.task) (bytes_eq a.topics b.topics) e in
+    let two = and_parts (a.task == b.task) (bytes_eq a.topics b.topics) e in
     let task = (Decides-eqb a.task b.task).0 two.0 in
     let topics = (bytes_eq-Decides a.topics b.topics).0 two.1 in
     (λ i. record { task = task i; topics = topics i })

@@ -24,7 +24,7 @@ use Rattle.agent_journal.specs.Parts.{IsSoundEffect, IsSoundCause, IsSoundEntry}
 use Rattle.agent_journal.specs.Readings.{Pending, pending_of, has_left, opens, opened_by, sent_id, or_else, command_id, id_at, stays_open}
 use Rattle.agent_journal.specs.Requests.{is_valid, is_few, is_wanted}
 use Rattle.agent_journal.specs.Setups.{is_client}
-use Rattle.agent_journal.proofs.Soundness as journal
+use Rattle.std.proofs.lemmas.Bool.{and_parts}
 use Rattle.agent_table.specs.Arrivals.{arrived_row, arrived_in}
 use Rattle.agent_table.specs.Deliveries.{publishes, is_open_publish, is_exactly_once, released_behind, released_of}
 use Rattle.agent_table.specs.Filters.{is_one_of, comes_before, sorted_with, sorted}
@@ -60,7 +60,7 @@ taken_valid : (s : Setup) (l : Sizes) (r : Readings) (task seq : ℕ) (request :
 unfolding takes.take_row takes.may_take
 taken_valid s l r task seq request some =
     let may = (some_when (nat_lt task s.tasks && not (r.left task) && (seq == r.takes task) && is_valid request) (takes.take_in s l r task seq request r.phase) some).0 in
-    (journal.both (nat_lt task s.tasks && not (r.left task) && (seq == r.takes task)) (is_valid request) may).1
+    (and_parts (nat_lt task s.tasks && not (r.left task) && (seq == r.takes task)) (is_valid request) may).1
 
 cause_sound : (s : Setup) (l : Sizes) (r : Readings) (time : ℕ) (cause : Cause) → is_some (cause_row s l r time cause) ≡ true → IsSoundCause cause
 cause_sound s l r time c.Opened some = tt
@@ -137,14 +137,14 @@ publish_low dup ExactlyOnce id n is e = let same : id ≡ n = cc in subst IsSome
 command_low : (packet : Packet) (n : ℕ) → has_fields packet ≡ true → command_id packet ≡ Some n → 0 < n
 command_low (p.Connect clean keep_alive client will user password) n is e = absurd (cc e)
 command_low (p.ConnAck present code) n is e = absurd (cc e)
-command_low (p.Publish dup qos retain topic id payload) n is e = publish_low dup qos id n (journal.both (is_string topic) (is_delivery dup qos id) is).1 e
+command_low (p.Publish dup qos retain topic id payload) n is e = publish_low dup qos id n (and_parts (is_string topic) (is_delivery dup qos id) is).1 e
 command_low (p.PubAck id) n is e = absurd (cc e)
 command_low (p.PubRec id) n is e = absurd (cc e)
 command_low (p.PubRel id) n is e = absurd (cc e)
 command_low (p.PubComp id) n is e = absurd (cc e)
-command_low (p.Subscribe id asks) n is e = let same : id ≡ n = cc in subst IsSome same (not_zero id (journal.both (is_identifier id) (has_some asks && list_all is_ask asks) is).0)
+command_low (p.Subscribe id asks) n is e = let same : id ≡ n = cc in subst IsSome same (not_zero id (and_parts (is_identifier id) (has_some asks && list_all is_ask asks) is).0)
 command_low (p.SubAck id codes) n is e = absurd (cc e)
-command_low (p.Unsubscribe id filters) n is e = let same : id ≡ n = cc in subst IsSome same (not_zero id (journal.both (is_identifier id) (has_some filters && list_all is_string filters) is).0)
+command_low (p.Unsubscribe id filters) n is e = let same : id ≡ n = cc in subst IsSome same (not_zero id (and_parts (is_identifier id) (has_some filters && list_all is_string filters) is).0)
 command_low (p.UnsubAck id) n is e = absurd (cc e)
 command_low p.PingReq n is e = absurd (cc e)
 command_low p.PingResp n is e = absurd (cc e)
@@ -157,7 +157,7 @@ sent_by (Some m) later n h k e = h n e
 sent_low : (effects : List Effect) (n : ℕ) → AreWell effects → sent_id effects ≡ Some n → 0 < n
 sent_low [] n well e = absurd (cc e)
 sent_low (f.Send packet ∷ effects) n well e =
-    sent_by (command_id packet) (sent_id effects) n (λ m is. command_low packet m (journal.both (has_fields packet) (nat_le (length (spelling packet)) 262144) well.0.0).0 is) (λ m is. sent_low effects m well.1 is) e
+    sent_by (command_id packet) (sent_id effects) n (λ m is. command_low packet m (and_parts (has_fields packet) (nat_le (length (spelling packet)) 262144) well.0.0).0 is) (λ m is. sent_low effects m well.1 is) e
 sent_low (f.Done task seq outcome ∷ effects) n well e = sent_low effects n well.1 e
 sent_low (f.Pass task message ∷ effects) n well e = sent_low effects n well.1 e
 sent_low (f.Closed task ∷ effects) n well e = sent_low effects n well.1 e
@@ -227,7 +227,7 @@ with_well routes (r ∷ rs) all more = with_well (with_route routes r) rs (with_
 asks_well : (request : Request) → is_valid request ≡ true → AllByRecursion IsWellAsk (asks_in request)
 unfolding is_valid
 asks_well (requests.Publish qos topic payload) valid = tt
-asks_well (requests.Subscribe asks) valid = all_tested (λ ask. is_wanted ask.filter) asks (journal.both (is_few (length asks)) (list_all (λ ask. is_wanted ask.filter) asks) valid).1
+asks_well (requests.Subscribe asks) valid = all_tested (λ ask. is_wanted ask.filter) asks (and_parts (is_few (length asks)) (list_all (λ ask. is_wanted ask.filter) asks) valid).1
 asks_well (requests.Unsubscribe filters) valid = tt
 asks_well requests.Ping valid = tt
 asks_well requests.Disconnect valid = tt

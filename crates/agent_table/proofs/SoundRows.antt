@@ -30,7 +30,8 @@ use Rattle.agent_journal.specs.declared.setup.Phase.TheVariants.{Down, Opening, 
 use Rattle.agent_journal.specs.Readings.{Pending}
 use Rattle.agent_journal.specs.Requests.{is_valid, is_few, is_wanted}
 use Rattle.agent_journal.specs.Setups.{is_client}
-use Rattle.agent_journal.proofs.Soundness as journal
+use Rattle.std.proofs.lemmas.Bool.{and_parts}
+use Rattle.agent_table.proofs.SoundPackets.{connect_sound}
 use Rattle.agent_table.specs.Arrivals.{arrived_row, arrived_in, opening_row, up_row, connack_row, first_row, resumed_row, publish_row, message_row, puback_row, pubrec_row, pubcomp_row, suback_row, unsuback_row, awaited, is_subscribe, at, publishes_at, all_done, all_granted}
 use Rattle.agent_table.specs.Breaks.{opened_row, broke_row, fault_row, end_row, idle_row, bytes_row, keep_alive_row, in_full_row, gave_up_row, tick_row, finish_row, down}
 use Rattle.agent_table.specs.Deliveries.{is_among, is_open_publish, is_exactly_once}
@@ -131,7 +132,7 @@ all_dropped P (suc n) (x ∷ xs) h = all_dropped P n xs h.1
 
 pub all_tested : {X : Type 0} (test : X → Bool) (xs : List X) → list_all test xs ≡ true → AllByRecursion (λ x. test x ≡ true) xs
 all_tested test [] h = tt
-all_tested test (x ∷ xs) h = let two = journal.both (test x) (list_all test xs) h in (two.0, all_tested test xs two.1)
+all_tested test (x ∷ xs) h = let two = and_parts (test x) (list_all test xs) h in (two.0, all_tested test xs two.1)
 
 -- ---- Effects
 
@@ -164,7 +165,7 @@ effects_if false x y h k = k
 
 -- a sound packet's fields
 fields_of : (packet : Packet) → is_sound packet ≡ true → has_fields packet ≡ true
-fields_of packet e = (journal.both (has_fields packet) (nat_le (length (spelling packet)) 262144) e).0
+fields_of packet e = (and_parts (has_fields packet) (nat_le (length (spelling packet)) 262144) e).0
 
 -- ---- Sending again
 
@@ -277,7 +278,7 @@ module _ (s : Setup) (l : Sizes) (r : Readings) (client : is_client s.client ≡
   well_up (p.ConnAck present code) e = well_ends
   well_up (p.Publish dup qos retain topic id payload) e =
       well_if (is_name topic) (message_row s l r qos topic id payload) (ends s r)
-      (well_message dup qos topic id payload (journal.both (is_string topic) (is_delivery dup qos id) (fields_of (p.Publish dup qos retain topic id payload) e)).1) well_ends
+      (well_message dup qos topic id payload (and_parts (is_string topic) (is_delivery dup qos id) (fields_of (p.Publish dup qos retain topic id payload) e)).1) well_ends
   well_up (p.PubAck id) e = well_done o.Done _
   well_up (p.PubRec id) e = effects_if (is_open_publish is_exactly_once r.pending id) (f.Send (p.PubRel id) ∷ []) [] (λ open_is. ((pubrel_sound id (fields_of (p.PubRec id) e), tt), tt)) tt
   well_up (p.PubRel id) e = ((pubcomp_sound id (fields_of (p.PubRel id) e), tt), tt)
@@ -362,7 +363,7 @@ module _ (s : Setup) (l : Sizes) (r : Readings) (client : is_client s.client ≡
 
   well_opened : (phase : Phase) → IsWellRow (opened_row s r phase)
   unfolding opened_row
-  well_opened Down = well_when _ (to Opening _) (λ e. ((journal.connect_sound s r.wiping client, tt), tt))
+  well_opened Down = well_when _ (to Opening _) (λ e. ((connect_sound s r.wiping client, tt), tt))
   well_opened Opening = tt
   well_opened Up = tt
   well_opened Spilled = tt
@@ -421,15 +422,15 @@ module _ (s : Setup) (l : Sizes) (r : Readings) (client : is_client s.client ≡
   unfolding takes.subscribe_row takes.unsubscribe_row is_valid
   well_request task seq (requests.Publish qos topic payload) valid = well_publish task seq qos topic payload valid
   well_request task seq (requests.Subscribe asks) valid =
-      let two = journal.both (is_few (length asks)) (list_all (λ ask. is_wanted ask.filter) asks) valid in
-      let few = journal.both (nat_le 1 (length asks)) (nat_le (length asks) 8) two.0 in
+      let two = and_parts (is_few (length asks)) (list_all (λ ask. is_wanted ask.filter) asks) valid in
+      let few = and_parts (nat_le 1 (length asks)) (nat_le (length asks) 8) two.0 in
       let id = fresh_in_range r.last_drawn (used r) well.drawn in
       effects_if (takes.is_full l r) (takes.at_once task seq o.NoRoom) _ (λ e. (tt, tt))
       (effects_if (nat_lt l.routes (length (takes.routes_with r task asks))) (takes.at_once task seq o.NoRoute) _ (λ e. (tt, tt))
       ((subscribe_sound (fresh_id r) asks id.0 (omega (arith, leb-true 1 (length asks) few.0)) (leb-true (length asks) 8 few.1) (all_tested (λ ask. is_wanted ask.filter) asks two.1), (id.1, tt)), tt))
   well_request task seq (requests.Unsubscribe filters) valid =
-      let two = journal.both (is_few (length filters)) (list_all is_wanted filters) valid in
-      let few = journal.both (nat_le 1 (length filters)) (nat_le (length filters) 8) two.0 in
+      let two = and_parts (is_few (length filters)) (list_all is_wanted filters) valid in
+      let few = and_parts (nat_le 1 (length filters)) (nat_le (length filters) 8) two.0 in
       let keeps : List ℕ → Bool = λ topics. not (takes.other_has r task topics) in
       well_unsubscribed task seq (takes.own_filters r task filters) (omega (arith, leb-true (length filters) 8 few.1, few_kept keeps filters)) (all_kept IsWellFilter keeps filters (all_tested is_wanted filters two.1))
   well_request task seq requests.Ping valid = ((ping_sound, tt), (tt, tt))
@@ -458,7 +459,7 @@ module _ (s : Setup) (l : Sizes) (r : Readings) (client : is_client s.client ≡
   well_cause time c.Opened = well_opened r.phase
   well_cause time (c.Take task seq request) =
       well_when _ (takes.take_in s l r task seq request r.phase)
-      (λ may. well_take task seq request r.phase (journal.both (nat_lt task s.tasks && not (r.left task) && (seq == r.takes task)) (is_valid request) may).1)
+      (λ may. well_take task seq request r.phase (and_parts (nat_lt task s.tasks && not (r.left task) && (seq == r.takes task)) (is_valid request) may).1)
   well_cause time (c.Arrived packet) = well_when (is_sound packet) (arrived_in s l r packet r.phase) (λ e. well_arrived packet r.phase e)
   well_cause time (c.Broke why) = well_broke time why
   well_cause time c.Tick = well_tick time r.phase

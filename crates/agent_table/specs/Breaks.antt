@@ -1,5 +1,6 @@
 -- The table's rows for what happens to the connection, and in time.
-use Rattle.std.specs.Prelude.{ℕ, ◌+◌, ◌*◌, Bool, true, false, ◌&&◌, not, ◌==◌, nat_lt, nat_le, [], ◌∷◌, Option, Some, None}
+use Rattle.std.specs.Prelude.{ℕ, zero, suc, ◌+◌, ◌*◌, Bool, true, false, ◌&&◌, not, ◌==◌, nat_lt, nat_le, List, [], ◌∷◌, Option, Some, None}
+use Rattle.mqtt_packet.specs.declared.packet.Packet.{Packet}
 use Rattle.mqtt_packet.specs.declared.packet.Packet.TheVariants as p
 use Rattle.agent_journal.specs.declared.entry.Why.{Why}
 use Rattle.agent_journal.specs.declared.entry.Why.TheVariants as w
@@ -7,10 +8,13 @@ use Rattle.agent_journal.specs.declared.effect.Effect.TheVariants as f
 use Rattle.agent_journal.specs.declared.setup.Setup.{Setup}
 use Rattle.agent_journal.specs.declared.setup.Phase.{Phase}
 use Rattle.agent_journal.specs.declared.setup.Phase.TheVariants.{Down, Opening, Up, Spilled, Off}
-use Rattle.agent_journal.specs.Rows.{connect, all_left, is_none}
+use Rattle.agent_journal.specs.Readings.{Pending}
 use Rattle.agent_table.specs.Effects.{lose_link}
 use Rattle.agent_table.specs.Readings.{Readings}
 use Rattle.agent_table.specs.Rows.{Row, to, when, ends}
+
+abbrev pub connect : Setup → Bool → Packet
+connect s clean = p.Connect clean s.keep_alive s.client None None None
 
 -- Opened: in Down, while breaks are at most reopen, CONNECT is sent (MQTT 3.1.1, section 3.1), clean exactly where wiping.
 unfoldable pub opened_row : Setup → Readings → Phase → Option Row
@@ -39,6 +43,10 @@ end_row r Opening = down r
 end_row r Up = down r
 end_row r Spilled = None
 end_row r Off = None
+
+abbrev pub is_none : List Pending → Bool
+is_none [] = true
+is_none (command ∷ commands) = false
 
 -- Nothing came for long: while Opening, or in Up where a command is open.
 unfoldable pub idle_row : Readings → Phase → Option Row
@@ -107,6 +115,11 @@ tick_row s r at Opening = None
 tick_row s r at Up = when (nat_lt 0 s.keep_alive && is_absent r.ping && is_past r.last_sent (500 * s.keep_alive) at) (to Up (f.Send p.PingReq ∷ []))
 tick_row s r at Spilled = None
 tick_row s r at Off = None
+
+-- the tasks below n have left
+abbrev pub all_left : ℕ → (ℕ → Bool) → Bool
+all_left zero left = true
+all_left (suc n) left = left n && all_left n left
 
 -- Finish: in Up, where all tasks have left and nothing is open, DISCONNECT is sent.
 unfoldable pub finish_row : Setup → Readings → Phase → Option Row

@@ -2,12 +2,13 @@
 use Rattle.std.specs.Prelude.{◌≡◌, ℕ, ◌<◌, true, List, [], ◌∷◌, reverse, Option, Some, None, is_some, if◌then◌else◌}
 use Rattle.std.specs.Option.{option_map}
 use Rattle.agent_journal.specs.declared.entry.Cause.{Cause}
+use Rattle.agent_journal.specs.declared.entry.Cause.TheVariants as c
+use Rattle.agent_journal.specs.declared.entry.Why.TheVariants.{KeepAlive, InFull}
 use Rattle.agent_journal.specs.declared.entry.Entry.{Entry}
 use Rattle.agent_journal.specs.declared.effect.Effect.{Effect}
 use Rattle.agent_journal.specs.declared.setup.Phase.{Phase}
 use Rattle.agent_journal.specs.declared.setup.Phase.TheVariants.{Down, Off}
 use Rattle.agent_journal.specs.declared.setup.Setup.{Setup}
-use Rattle.agent_journal.specs.Histories.{due_causes}
 use Rattle.agent_journal.specs.Readings.{has_left}
 use Rattle.agent_table.specs.Readings.{Readings, read_at}
 use Rattle.agent_table.specs.Rows.{Row}
@@ -35,6 +36,9 @@ abbrev pub effects_of : Option Row → Option (List Effect)
 effects_of r = option_map (λ row. row.effects) r
 
 -- What is due, the first of these that has a row.
+abbrev pub due_causes : List Cause
+due_causes = c.Finish ∷ c.Broke KeepAlive ∷ c.Tick ∷ c.GaveUp ∷ c.Broke InFull ∷ []
+
 abbrev pub first_row : Setup → Sizes → Readings → ℕ → List Cause → Option Cause
 first_row s l r at [] = None
 first_row s l r at (cause ∷ causes) = if is_some (row_of s l r at cause) then Some cause else first_row s l r at causes

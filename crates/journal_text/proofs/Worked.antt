@@ -6,8 +6,10 @@ use Rattle.std.proofs.lemmas.Bool.{and_parts, ltb-true}
 use Rattle.agent_journal.specs.Parts.{IsSoundEntry}
 use Rattle.agent_journal.specs.Setups as setups
 use Rattle.agent_journal.specs.Worked.{setup, journal}
-use Rattle.agent_journal.proofs.Lawful.{has_sound_packets}
-use Rattle.agent_journal.proofs.Worked.{example_is_legal, example_is_printed}
+use Rattle.agent_journal.proofs.Worked.{example_is_printed}
+use Rattle.agent_table.specs.Worked.{usual}
+use Rattle.agent_table.proofs.SoundPasts.{packets_are_sound}
+use Rattle.agent_table.proofs.Worked.{firsts_are_legal}
 use Rattle.journal_text.specs.Laws.{ExampleIsNamed}
 use Rattle.journal_text.specs.Typed.{AreBytes, IsTypedEntry}
 use Rattle.journal_text.proofs.Names.{texts_name_journals}
@@ -34,7 +36,7 @@ example_typed = (
 
 example_sound : AllByRecursion IsSoundEntry journal
 unfolding setups.is_client
-example_sound = let all = has_sound_packets setup (reverse journal) refl example_is_legal in (all.1.1.1.1.0, (all.1.1.1.0, (all.1.1.0, (all.1.0, (all.0, tt)))))
+example_sound = let all = packets_are_sound setup usual (reverse journal) refl firsts_are_legal.published in (all.1.1.1.1.0, (all.1.1.1.0, (all.1.1.0, (all.1.0, (all.0, tt)))))
 
 pub example_is_named : ExampleIsNamed
 example_is_named other sound typed e = texts_name_journals other journal sound example_sound typed example_typed (e ∙ sym example_is_printed)

@@ -18,7 +18,7 @@ use Rattle.agent_journal.specs.declared.setup.Setup.{Setup}
 use Rattle.agent_journal.specs.declared.setup.Phase.{Phase}
 use Rattle.agent_journal.specs.declared.setup.Phase.TheVariants.{Down, Opening, Up, Spilled, Off}
 use Rattle.agent_journal.specs.Readings.{accepts, breaks_behind}
-use Rattle.agent_journal.specs.Rows.{all_left, is_none, connect}
+use Rattle.agent_table.specs.Breaks.{all_left, is_none, connect}
 use Rattle.agent_table.specs.Arrivals.{arrived_row, arrived_in}
 use Rattle.agent_table.specs.Breaks.{opened_row, broke_row, fault_row, end_row, idle_row, bytes_row, keep_alive_row, in_full_row, gave_up_row, tick_row, finish_row, down, is_past, is_absent}
 use Rattle.agent_table.specs.Readings.{Readings, at_most}

@@ -22,7 +22,7 @@ use Rattle.agent_journal.specs.declared.setup.Setup.{Setup}
 use Rattle.agent_journal.specs.declared.setup.Phase.{Phase}
 use Rattle.agent_journal.specs.declared.setup.Phase.TheVariants.{Down, Opening, Up, Spilled, Off}
 use Rattle.agent_journal.specs.Readings.{Pending, accepts}
-use Rattle.agent_journal.specs.Rows.{is_none, connect}
+use Rattle.agent_table.specs.Breaks.{is_none, connect}
 use Rattle.agent_journal.specs.Wires.{packet_in, sends, sent_in, is_opened}
 use Rattle.agent_table.specs.Arrivals.{arrived_row, arrived_in, opening_row, connack_row, first_row, resumed_row, up_row, publish_row, message_row, received_row, puback_row, pubrec_row, pubcomp_row, suback_row, unsuback_row, awaited}
 use Rattle.agent_table.specs.Breaks.{opened_row, broke_row, fault_row, end_row, idle_row, bytes_row, keep_alive_row, in_full_row, gave_up_row, tick_row, finish_row, down, is_past}

@@ -14,7 +14,7 @@ use Rattle.agent_journal.specs.declared.setup.Phase.{Phase}
 use Rattle.agent_journal.specs.declared.setup.Phase.TheVariants.{Down, Opening, Up, Spilled, Off}
 use Rattle.agent_journal.specs.Readings.{Pending, takes_of, has_left, pending_of}
 use Rattle.agent_journal.specs.Requests.{is_valid}
-use Rattle.agent_journal.specs.Rows.{all_left, is_none}
+use Rattle.agent_table.specs.Breaks.{all_left, is_none}
 use Rattle.agent_table.specs.Histories.{readings}
 use Rattle.agent_table.specs.Rows.{Row}
 use Rattle.agent_table.specs.Sends.{sends_ping}

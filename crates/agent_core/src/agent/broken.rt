@@ -2,7 +2,7 @@
 
 ghost use Rattle.std.specs.Prelude.{◌≡◌, ◌+◌, ◌≤◌, [], nat_le, true, Some, is_some, IfOk, OnOk, ◌++◌};
 ghost use Rattle.std.specs.List.{list_all};
-ghost use Rattle.agent_journal.specs.Rows.{all_left, is_none};
+ghost use Rattle.agent_table.specs.Breaks.{all_left, is_none};
 ghost use Rattle.agent_table.specs.Breaks as table;
 ghost use Rattle.agent_table.specs.Effects.{close};
 ghost use Rattle.agent_table.specs.Rows.{ends};

@@ -1,6 +1,6 @@
 use Rattle.std.proofs.Common.{◌≡◌, ap, ◌∙◌, subst}
 use Rattle.std.specs.List.{list_all}
-use Rattle.agent_journal.specs.Rows.{all_left}
+use Rattle.agent_table.specs.Breaks.{all_left}
 use Rattle.agent_core.specs.Kept.{Kept, readings_in}
 use Rattle.agent_core.proofs.Left.{all_left_list}
 use Rattle.agent_core.proofs.agent.Core.all_left.Goals as goal
