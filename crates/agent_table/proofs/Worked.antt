@@ -16,8 +16,10 @@ use Rattle.agent_table.specs.Worked.{FirstsAreLegal, DeliveriesAreLegal, Message
 pub firsts_are_legal : FirstsAreLegal
 unfolding spelling.groups str.is_utf8 str.chars utf8.encode texts.is_name table.row_of requests.is_valid arrivals.arrived_row arrivals.connack_row breaks.opened_row breaks.finish_row takes.take_row takes.may_take takes.publish_row
 firsts_are_legal = record {
-  published = (refl, (refl, (refl, (refl, (refl, tt)))));
+  published_legal = (refl, (refl, (refl, (refl, (refl, tt)))));
+  never_done = λ h. absurd (cc h.1.1.0);
   refused_legal = (refl, (refl, (refl, (refl, tt))));
+  not_closed = λ h. absurd (cc h.1.1.0);
 }
 
 pub deliveries_are_legal : DeliveriesAreLegal
@@ -27,6 +29,7 @@ deliveries_are_legal = record {
   resumed_legal = (refl, (refl, (refl, (refl, (refl, (refl, (refl, (refl, (refl, tt)))))))));
   resumed_without_dup = λ h. absurd (cc h.1.1.1.0);
   lost_legal = (refl, (refl, (refl, (refl, (refl, (refl, (refl, (refl, tt))))))));
+  lost_as_done = λ h. absurd (cc h.1.1.0);
   released_legal = (refl, (refl, (refl, (refl, (refl, (refl, (refl, (refl, (refl, (refl, tt))))))))));
   published_again = λ h. absurd (cc h.1.1.1.0);
   acknowledged_legal = (refl, (refl, (refl, (refl, (refl, (refl, (refl, (refl, tt))))))));
@@ -40,7 +43,9 @@ messages_are_legal = record {
   passed_legal = (refl, (refl, (refl, (refl, (refl, (refl, (refl, (refl, (refl, tt)))))))));
   passed_twice = λ h. absurd (cc h.1.1.1.0);
   wrong_legal = (refl, (refl, (refl, (refl, tt))));
+  granted_nevertheless = λ h. absurd (cc h.0);
   spilled_legal = (refl, (refl, (refl, (refl, (refl, (refl, (refl, tt)))))));
+  received_without_room = λ h. absurd (cc h.1.1.0);
 }
 
 pub renewals_are_legal : RenewalsAreLegal
@@ -48,9 +53,11 @@ unfolding spelling.groups str.is_utf8 str.chars utf8.encode texts.is_name texts.
     arrivals.suback_row breaks.opened_row breaks.end_row breaks.finish_row takes.take_row takes.may_take takes.subscribe_row
 renewals_are_legal = record {
   once = (refl, (refl, (refl, (refl, (refl, (refl, (refl, (refl, (refl, (refl, (refl, tt)))))))))));
+  forgotten = λ h. absurd (cc h.1.1.0);
   twice = (refl, (refl, (refl, (refl, (refl, (refl, (refl, (refl, (refl, (refl, (refl, (refl, (refl, (refl, tt))))))))))))));
   left_out = λ h. absurd (cc h.1.1.1.1.0);
   refused_legal = (refl, (refl, (refl, (refl, (refl, (refl, (refl, (refl, (refl, (refl, (refl, tt)))))))))));
+  passed_though_refused = λ h. absurd (cc h.1.1.0);
 }
 
 pub ends_are_legal : EndsAreLegal
@@ -58,6 +65,7 @@ unfolding spelling.groups str.is_utf8 str.chars utf8.encode texts.is_name table.
     breaks.gave_up_row breaks.finish_row takes.take_row takes.may_take takes.publish_row takes.disconnect_row
 ends_are_legal = record {
   terminated_legal = (refl, (refl, (refl, (refl, (refl, (refl, tt))))));
+  left_open = λ h. absurd (cc h.1.1.0);
   quiet_legal = (refl, (refl, (refl, (refl, (refl, (refl, tt))))));
   too_early = λ h. absurd (cc h.1.1.0);
 }

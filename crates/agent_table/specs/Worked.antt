@@ -7,6 +7,7 @@ use Rattle.mqtt_packet.specs.declared.packet.Packet.TheVariants as p
 use Rattle.mqtt_packet.specs.declared.will.Ask.{Ask}
 use Rattle.agent_journal.specs.declared.request.Request.{Request}
 use Rattle.agent_journal.specs.declared.request.Request.TheVariants as requests
+use Rattle.agent_journal.specs.declared.outcome.Outcome.{Outcome}
 use Rattle.agent_journal.specs.declared.outcome.Outcome.TheVariants as o
 use Rattle.agent_journal.specs.declared.entry.Cause.{Cause}
 use Rattle.agent_journal.specs.declared.entry.Cause.TheVariants as c
@@ -55,11 +56,16 @@ takes seq wanted effects = at 0 (c.Take 0 seq wanted) effects
 abbrev pub sends : Packet → List Effect
 sends one = f.Send one ∷ []
 
--- ---- A CONNACK that refuses
+-- ---- A publish at QoS 0, with what follows its PUBLISH
 
-abbrev pub refused : List Entry
-refused =
-    opens 0 60 ∷ arrives (p.ConnAck false 5) (f.Closed 0 ∷ []) ∷ takes 0 (request AtMostOnce) (f.Done 0 0 o.NotConnected ∷ []) ∷ takes 1 requests.Leave [] ∷ []
+abbrev pub published : List Effect → List Entry
+published behind = begins (takes 0 (request AtMostOnce) (f.Send (packet false AtMostOnce 0) ∷ behind) ∷ finishes 1)
+
+-- ---- A CONNACK that refuses, with what is told
+
+abbrev pub refused : List Effect → List Entry
+refused told =
+    opens 0 60 ∷ arrives (p.ConnAck false 5) told ∷ takes 0 (request AtMostOnce) (f.Done 0 0 o.NotConnected ∷ []) ∷ takes 1 requests.Leave [] ∷ []
 
 -- ---- A publish at QoS 1 over a connection that ends, with the session kept and lost
 
@@ -69,10 +75,10 @@ resumed dup =
     (takes 0 (request AtLeastOnce) (sends (packet false AtLeastOnce 1)) ∷ at 0 (c.Broke w.End) [] ∷ opens 0 60 ∷ arrives (p.ConnAck true 0) (sends (packet dup AtLeastOnce 1))
     ∷ arrives (p.PubAck 1) (f.Done 0 0 o.Done ∷ []) ∷ finishes 1)
 
-abbrev pub lost : List Entry
-lost =
+abbrev pub lost : Outcome → List Entry
+lost outcome =
     begins
-    (takes 0 (request AtLeastOnce) (sends (packet false AtLeastOnce 1)) ∷ at 0 (c.Broke w.End) [] ∷ opens 0 60 ∷ arrives (p.ConnAck false 0) (f.Done 0 0 o.SessionLost ∷ []) ∷ finishes 1)
+    (takes 0 (request AtLeastOnce) (sends (packet false AtLeastOnce 1)) ∷ at 0 (c.Broke w.End) [] ∷ opens 0 60 ∷ arrives (p.ConnAck false 0) (f.Done 0 0 outcome ∷ []) ∷ finishes 1)
 
 -- ---- A publish at QoS 2: the PUBREL is sent again, and never the PUBLISH
 
@@ -104,19 +110,19 @@ passed second =
     ∷ arrives (packet false ExactlyOnce 7) (passes ExactlyOnce ∷ sends (p.PubRec 7)) ∷ arrives (packet true ExactlyOnce 7) second ∷ arrives (p.PubRel 7) (sends (p.PubComp 7)) ∷ finishes 1)
 
 -- a SUBACK with too few codes is wrong
-abbrev pub wrong : List Entry
-wrong =
+abbrev pub wrong : List Effect → List Entry
+wrong told =
     begins
-    (takes 0 (requests.Subscribe asks) (sends (p.Subscribe 1 asks)) ∷ arrives (p.SubAck 1 (2 ∷ [])) (f.Done 0 0 o.Cancelled ∷ f.Closed 0 ∷ []) ∷ [])
+    (takes 0 (requests.Subscribe asks) (sends (p.Subscribe 1 asks)) ∷ arrives (p.SubAck 1 (2 ∷ [])) told ∷ [])
 
--- more messages at QoS 2 than there is room for
+-- more messages at QoS 2 than there is room for, with what is sent for the one too many
 abbrev pub empty : ℕ → Packet
 empty id = p.Publish false ExactlyOnce false (codes "a") id []
 
-abbrev pub spilled : List Entry
-spilled =
+abbrev pub spilled : List Effect → List Entry
+spilled third =
     begins
-    (arrives (empty 1) (sends (p.PubRec 1)) ∷ arrives (empty 2) (sends (p.PubRec 2)) ∷ arrives (empty 3) [] ∷ at 0 (c.Broke w.InFull) [] ∷ at 0 c.GaveUp (f.Closed 0 ∷ []) ∷ [])
+    (arrives (empty 1) (sends (p.PubRec 1)) ∷ arrives (empty 2) (sends (p.PubRec 2)) ∷ arrives (empty 3) third ∷ at 0 (c.Broke w.InFull) [] ∷ at 0 c.GaveUp (f.Closed 0 ∷ []) ∷ [])
 
 -- ---- Routes that outlive a lost session
 
@@ -132,23 +138,23 @@ renewed entries =
 abbrev pub message : Entry
 message = arrives (packet false AtMostOnce 0) (passes AtMostOnce ∷ [])
 
-abbrev pub renewed_once : List Entry
-renewed_once = renewed (arrives (p.SubAck 2 (1 ∷ [])) [] ∷ message ∷ finishes 1)
+abbrev pub unpassed : Entry
+unpassed = arrives (packet false AtMostOnce 0) []
+
+-- what the SUBACK of the renewal says, and then the message
+abbrev pub renewed_once : ℕ → Entry → List Entry
+renewed_once code last = renewed (arrives (p.SubAck 2 (code ∷ [])) [] ∷ last ∷ finishes 1)
 
 -- the renewal wasn't answered, so it is asked for again with the session that was kept
 abbrev pub renewed_twice : List Effect → List Entry
 renewed_twice again = renewed (at 0 (c.Broke w.End) [] ∷ opens 0 60 ∷ arrives (p.ConnAck true 0) again ∷ arrives (p.SubAck 3 (1 ∷ [])) [] ∷ message ∷ finishes 1)
 
--- a renewal that is refused ends the route
-abbrev pub renewal_refused : List Entry
-renewal_refused = renewed (arrives (p.SubAck 2 (128 ∷ [])) [] ∷ arrives (packet false AtMostOnce 0) [] ∷ finishes 1)
-
 -- ---- Ends
 
-abbrev pub terminated : List Entry
-terminated =
+abbrev pub terminated : List Effect → List Entry
+terminated told =
     begins
-    (takes 0 (request AtLeastOnce) (sends (packet false AtLeastOnce 1)) ∷ takes 1 requests.Terminate (f.Done 0 0 o.Cancelled ∷ f.Send p.Disconnect ∷ f.Done 0 1 o.Done ∷ f.Closed 0 ∷ [])
+    (takes 0 (request AtLeastOnce) (sends (packet false AtLeastOnce 1)) ∷ takes 1 requests.Terminate told
     ∷ takes 2 requests.Ping (f.Done 0 2 o.Cancelled ∷ []) ∷ takes 3 requests.Leave [] ∷ [])
 
 -- a PINGREQ that isn't answered
@@ -167,13 +173,16 @@ abbrev pub Legal : List Entry → Type 0
 Legal entries = IsLegal (agent 60 5) usual entries
 
 pub record FirstsAreLegal : Type 0 where
-  pub published : Legal first.journal
-  pub refused_legal : Legal refused
+  pub published_legal : Legal first.journal
+  pub never_done : Legal (published []) → ⊥
+  pub refused_legal : Legal (refused (f.Closed 0 ∷ []))
+  pub not_closed : Legal (refused []) → ⊥
 
 pub record DeliveriesAreLegal : Type 0 where
   pub resumed_legal : Legal (resumed true)
   pub resumed_without_dup : Legal (resumed false) → ⊥
-  pub lost_legal : Legal lost
+  pub lost_legal : Legal (lost o.SessionLost)
+  pub lost_as_done : Legal (lost o.Done) → ⊥
   pub released_legal : Legal (released (p.PubRel 1))
   pub published_again : Legal (released (packet true ExactlyOnce 1)) → ⊥
   pub acknowledged_legal : Legal (acknowledged (sends (p.PubRel 1)))
@@ -182,16 +191,21 @@ pub record DeliveriesAreLegal : Type 0 where
 pub record MessagesAreLegal : Type 0 where
   pub passed_legal : Legal (passed (sends (p.PubRec 7)))
   pub passed_twice : Legal (passed (passes ExactlyOnce ∷ sends (p.PubRec 7))) → ⊥
-  pub wrong_legal : Legal wrong
-  pub spilled_legal : IsLegal (agent 60 0) tiny spilled
+  pub wrong_legal : Legal (wrong (f.Done 0 0 o.Cancelled ∷ f.Closed 0 ∷ []))
+  pub granted_nevertheless : Legal (wrong (f.Done 0 0 (o.Granted (2 ∷ [])) ∷ [])) → ⊥
+  pub spilled_legal : IsLegal (agent 60 0) tiny (spilled [])
+  pub received_without_room : IsLegal (agent 60 0) tiny (spilled (sends (p.PubRec 3))) → ⊥
 
 pub record RenewalsAreLegal : Type 0 where
-  pub once : Legal renewed_once
+  pub once : Legal (renewed_once 1 message)
+  pub forgotten : Legal (renewed_once 1 unpassed) → ⊥
   pub twice : Legal (renewed_twice (sends (p.Subscribe 3 wanted)))
   pub left_out : Legal (renewed_twice []) → ⊥
-  pub refused_legal : Legal renewal_refused
+  pub refused_legal : Legal (renewed_once 128 unpassed)
+  pub passed_though_refused : Legal (renewed_once 128 message) → ⊥
 
 pub record EndsAreLegal : Type 0 where
-  pub terminated_legal : Legal terminated
+  pub terminated_legal : Legal (terminated (f.Done 0 0 o.Cancelled ∷ f.Send p.Disconnect ∷ f.Done 0 1 o.Done ∷ f.Closed 0 ∷ []))
+  pub left_open : Legal (terminated (f.Send p.Disconnect ∷ f.Done 0 1 o.Done ∷ f.Closed 0 ∷ [])) → ⊥
   pub quiet_legal : IsLegal (agent 1 0) usual (quiet 7000)
   pub too_early : IsLegal (agent 1 0) usual (quiet 6999) → ⊥

@@ -36,7 +36,7 @@ example_typed = (
 
 example_sound : AllByRecursion IsSoundEntry journal
 unfolding setups.is_client
-example_sound = let all = packets_are_sound setup usual (reverse journal) refl firsts_are_legal.published in (all.1.1.1.1.0, (all.1.1.1.0, (all.1.1.0, (all.1.0, (all.0, tt)))))
+example_sound = let all = packets_are_sound setup usual (reverse journal) refl firsts_are_legal.published_legal in (all.1.1.1.1.0, (all.1.1.1.0, (all.1.1.0, (all.1.0, (all.0, tt)))))
 
 pub example_is_named : ExampleIsNamed
 example_is_named other sound typed e = texts_name_journals other journal sound example_sound typed example_typed (e ∙ sym example_is_printed)
