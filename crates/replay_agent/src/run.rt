@@ -22,6 +22,9 @@ use broker_tape::{Tape, TapeLink};
 use mqtt_packet::Splitter;
 use std::alloc::Global;
 
+/// How many bytes a receive has room for.
+const ROOM: usize = 4096;
+
 /// What a replay has beside the agent: its journal, its link and clock, how far it is in the script and in what the
 /// connection gave, and what it needs to know of the journal at each round.
 #[derive(Debug, Drop)]
@@ -31,6 +34,8 @@ pub(crate) struct Run {
     pub(crate) link: TapeLink,
     pub(crate) clock: StepClock,
     pub(crate) splitter: Splitter,
+    /// Where a receive puts what comes. It is kept, since a round that hears nothing should cost nothing.
+    heard: [u8; ROOM],
     /// Where an entry's packets are spelled before they are sent.
     buffer: Vec<u8>,
     /// How often in a row nothing was heard, at most 10,000.
@@ -58,6 +63,7 @@ impl Run {
             link: TapeLink::new(alloc, tape),
             clock: StepClock::new(tick),
             splitter: Splitter::new(alloc),
+            heard: [0; ROOM],
             buffer: Vec::new(alloc),
             idle: 0,
             gone: 0,

@@ -13,9 +13,6 @@ use agent_link::{Fault, Heard, Link};
 use mqtt_packet::{Next, NoMemory};
 use std::alloc::AllocError;
 
-/// How many bytes a receive has room for.
-const ROOM: usize = 4096;
-
 /// How often in a row nothing is heard on a connection that counts as broken.
 const IDLE_LIMIT: u32 = 10_000;
 
@@ -33,11 +30,10 @@ impl Run {
         ensures sound { OnOk result (IsSound core.new self.new) }
         ensures acted { OnOk result ((lines : List Line) → world core.new self.new lines ≡ receiving.receives (world core.old self.old lines) now) }
     {
-        let mut buffer = [0u8; ROOM];
-        match self.link.recv(buffer.as_mut_slice()) {
+        match self.link.recv(self.heard.as_mut_slice()) {
             Ok(Heard::Bytes(count)) => {
                 self.idle = 0;
-                self.splitter.feed(&buffer[..count])?;
+                self.splitter.feed(&self.heard[..count])?;
                 self.hand_in(core, now)
             }
             Ok(Heard::Nothing) => self.idle_on(core, now),
