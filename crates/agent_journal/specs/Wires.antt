@@ -48,18 +48,12 @@ arrives c.Tick = []
 arrives c.GaveUp = []
 arrives c.Finish = []
 
--- the bytes that an entry sends, and those of the packet that arrived with it
+-- the bytes that an entry sends
 abbrev pub sent_by : Entry → List ℕ
 sent_by e = sent_in e.effects
 
-abbrev pub heard_by : Entry → List ℕ
-heard_by e = flat_map spelling (arrives e.cause)
-
 abbrev pub sent : List Entry → List ℕ
 sent entries = flat_map sent_by entries
-
-abbrev pub heard : List Entry → List ℕ
-heard entries = flat_map heard_by entries
 
 -- A Broke Fault stands directly behind the last entry that sends, and bytes of that entry's sends are missing.
 abbrev pub IsCutShort : List Entry → List ℕ → Type 0
@@ -71,30 +65,7 @@ IsCutShort entries taken =
 abbrev pub Wired : List Entry → List ℕ → Type 0
 Wired entries taken = (taken ≡ sent entries) ⊎ IsCutShort entries taken
 
--- What a connection gave is the spelling of the packets that arrived.
-abbrev pub Heard : List Entry → List ℕ → Type 0
-Heard entries given = given ≡ heard entries
-
--- as many connections as byte lists, and each is tied to its own
-abbrev pub EachTied : (List Entry → List ℕ → Type 0) → List (List Entry) → List (List ℕ) → Type 0
-EachTied Tie [] [] = Unit {0}
-EachTied Tie [] (bytes ∷ wires) = ⊥
-EachTied Tie (entries ∷ others) [] = ⊥
-EachTied Tie (entries ∷ others) (bytes ∷ wires) = Tie entries bytes × EachTied Tie others wires
-
--- each connection was given a front of these, connection by connection
-abbrev pub AreFronts : List (List ℕ) → List (List ℕ) → Type 0
-AreFronts [] wires = Unit {0}
-AreFronts (front ∷ fronts) [] = ⊥
-AreFronts (front ∷ fronts) (wire ∷ wires) = ((rest : List ℕ) × (wire ≡ front ++ rest)) × AreFronts fronts wires
-
 -- each entry's time is one of these readings
 abbrev pub AreReadings : List ℕ → List Entry → Type 0
 AreReadings readings [] = Unit {0}
 AreReadings readings (e ∷ past) = Contains readings e.at × AreReadings readings past
-
--- The journal whose past this is, over connections that took and gave these bytes and a clock that was read so.
-pub record IsTied (past : List Entry) (taken given : List (List ℕ)) (readings : List ℕ) : Type 0 where
-  pub wired : EachTied Wired (connections past) taken
-  pub heard_all : EachTied Heard (connections past) given
-  pub times : AreReadings readings past

@@ -60,8 +60,15 @@ pub closed_advance : (k : ℕ) (xs : List Item) → closed (advance k xs) ≡ cl
 closed_advance k [] = refl
 closed_advance k (item ∷ xs) = closed_played k item xs
 
-pub opens_some : (k at next : ℕ) (xs : List Item) (d : Item) → closed (drop at xs) ≡ drop next xs → next < length xs → (begins (get_or xs next d), drop (next + 1) xs) ≡ opens (advance k (drop at xs))
-opens_some k at next xs d e within = sym (ap opens_at (closed_advance k (drop at xs) ∙ e ∙ drop_more xs next d within))
+opens_found : (k at next : ℕ) (xs : List Item) (d : Item) → closed (drop at xs) ≡ drop next xs → next < length xs → opens (advance k (drop at xs)) ≡ opens_at (get_or xs next d ∷ drop (next + 1) xs)
+opens_found k at next xs d e within = ap opens_at (closed_advance k (drop at xs) ∙ e ∙ drop_more xs next d within)
+
+pub opens_begun : (k at next : ℕ) (xs : List Item) (d : Item) → closed (drop at xs) ≡ drop next xs → next < length xs → begins (get_or xs next d) ≡ true → (true, drop (next + 1) xs) ≡ opens (advance k (drop at xs))
+opens_begun k at next xs d e within is = sym (opens_found k at next xs d e within ∙ rw is refl)
+
+pub opens_refused : (k at next behind : ℕ) (xs : List Item) (d : Item) → closed (drop at xs) ≡ drop next xs → next < length xs → begins (get_or xs next d) ≡ false → closed (drop (next + 1) xs) ≡ drop behind xs
+    → (false, drop behind xs) ≡ opens (advance k (drop at xs))
+opens_refused k at next behind xs d e within is onward = sym (opens_found k at next xs d e within ∙ rw (is, onward) refl)
 
 pub opens_none : (k at next : ℕ) (xs : List Item) → closed (drop at xs) ≡ drop next xs → length xs ≤ next → (false, drop next xs) ≡ opens (advance k (drop at xs))
 opens_none k at next xs e end = ap (λ l. (false, l)) (drop_all next xs end) ∙ sym (ap opens_at (closed_advance k (drop at xs) ∙ e ∙ drop_all next xs end))

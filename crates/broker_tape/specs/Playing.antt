@@ -44,11 +44,16 @@ begins (items.Quiet count) = false
 begins items.End = false
 begins items.Fail = false
 
+abbrev pub opens_by : Bool → List Item → Bool × List Item
+opens_by true rest = (true, rest)
+opens_by false rest = (false, closed rest)
+
 abbrev pub opens_at : List Item → Bool × List Item
 opens_at [] = (false, [])
-opens_at (item ∷ rest) = (begins item, rest)
+opens_at (item ∷ rest) = opens_by (begins item) rest
 
--- Whether an opening begins a connection, and what is left then. It fails at a `fail`, and where there is no further one.
+-- Whether an opening begins a connection, and what is left then. It fails at a `fail`, and where there is no further one;
+-- the tape then stands at its next opening.
 abbrev pub opens : List Item → Bool × List Item
 opens left = opens_at (closed left)
 

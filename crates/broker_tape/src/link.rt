@@ -91,7 +91,7 @@ impl Link for TapeLink {
 
     ghost nothings = { λ l. l.nothings };
 
-    #[tactic(auto, using(crate::proofs::Plays::opens_some, crate::proofs::Plays::opens_none, crate::proofs::Plays::advance_none))]
+    #[tactic(auto, using(crate::proofs::Plays::opens_begun, crate::proofs::Plays::opens_refused, crate::proofs::Plays::opens_none, crate::proofs::Plays::advance_none))]
     fn open(&mut self, _to: &str) -> Result<(), Fault>
         ensures taken { Some self.new.taken ≡ after_open (Some self.old.taken) result }
         ensures given { Some self.new.given ≡ after_open (Some self.old.given) result }
@@ -116,7 +116,7 @@ impl Link for TapeLink {
                 Ok(())
             }
             Some(_) => {
-                self.at = next + 1;
+                self.at = next_opening(self.items.as_slice(), next + 1);
                 self.played = 0;
                 self.faults = self.faults.saturating_add(1);
                 Err(Fault::Failed)

@@ -5,7 +5,7 @@ use Rattle.mqtt_packet.specs.Stream.{AreBytes}
 use Rattle.mqtt_packet.proofs.Numbers.{bytes_drop, bytes_take}
 use Rattle.broker_tape.specs.declared.tape.Item.{Item}
 use Rattle.broker_tape.specs.declared.tape.Item.TheVariants as items
-use Rattle.broker_tape.specs.Playing.{is_opening, closed, opens_at, opens, is_used, next, hears_of, hears_at, hears, bytes_at, present}
+use Rattle.broker_tape.specs.Playing.{is_opening, begins, closed, opens_by, opens_at, opens, is_used, next, hears_of, hears_at, hears, bytes_at, present}
 use Rattle.broker_tape.specs.Given.{GivesBytes}
 
 closed_by : (b : Bool) (item : Item) (rest : List Item) → GivesBytes (item ∷ rest) → GivesBytes (closed rest) → GivesBytes (cond b (item ∷ rest) (closed rest))
@@ -16,9 +16,13 @@ pub closed_gives : (left : List Item) → GivesBytes left → GivesBytes (closed
 closed_gives [] h = tt
 closed_gives (item ∷ rest) h = closed_by (is_opening item) item rest h (closed_gives rest h.1)
 
+begun_by : (b : Bool) (rest : List Item) → GivesBytes rest → GivesBytes (opens_by b rest).1
+begun_by true rest h = h
+begun_by false rest h = closed_gives rest h
+
 opens_at_gives : (left : List Item) → GivesBytes left → GivesBytes (opens_at left).1
 opens_at_gives [] h = tt
-opens_at_gives (item ∷ rest) h = h.1
+opens_at_gives (item ∷ rest) h = begun_by (begins item) rest h.1
 
 pub opens_gives : (left : List Item) → GivesBytes left → GivesBytes (opens left).1
 opens_gives left h = opens_at_gives (closed left) (closed_gives left h)

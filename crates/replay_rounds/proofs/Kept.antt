@@ -121,100 +121,107 @@ module _ (Holds : World → Type 0) (lines_on : (w : World) (lines : List Line) 
   passes_with told [] w h = lines_on w [] h
   passes_with told (line ∷ lines) w h = passes_step_with told w (passes told lines) (line ∷ lines) line.step (passes_with told lines) h
 
--- A property of the setup, the sizes and the past that entries of rows at this time carry on.
-pub record IsKept (now : ℕ) (Holds : World → Type 0) : Type 1 where
-  pub entry_on : (w : World) (cause : Cause) (found : Row) → row_in w now cause ≡ Some found → Holds w → Holds (record w { past = entry now cause found ∷ w.past })
-  pub others : (w v : World) → w.setup ≡ v.setup → w.sizes ≡ v.sizes → w.past ≡ v.past → Holds w → Holds v
+-- A property that each part of a round carries on.
+pub record IsWalked (now : ℕ) (Holds : World → Type 0) : Type 1 where
+  pub enters : (w : World) (cause : Cause) → Holds w → Holds (entered w now cause)
+  pub receives_on : (w : World) → Holds w → Holds (receives w now)
+  pub opening_on : (w : World) → Holds w → Holds (opening w now)
+  pub lines_on : (w : World) (lines : List Line) → Holds w → Holds (record w { lines = lines })
+  pub listened_on : (w : World) (count : ℕ) → Holds w → Holds (record w { listened = count })
 
-carried : (now : ℕ) (Holds : World → Type 0) → IsKept now Holds → IsCarried now Any Holds
-carried now Holds k =
-    record {
-      arrived = λ packet. tt;
-      broke = λ reason. tt;
-      entry_on = λ w cause found of e h. k.entry_on w cause found e h;
-      shut_on = λ w h. k.others w (shut w) refl refl refl h;
-      wire_on = λ w bytes h. k.others w (onto_wire w bytes) refl refl refl h;
-      stream_on = λ w stream h. k.others w (record w { stream = stream }) refl refl refl h;
-      idle_on = λ w idle h. k.others w (record w { idle = idle }) refl refl refl h;
-    }
-
-module _ (now : ℕ) (Holds : World → Type 0) (k : IsKept now Holds) where
-  enters : (w : World) (cause : Cause) → Holds w → Holds (entered w now cause)
-  enters w cause h = entered_on now Any Holds (carried now Holds k) w cause tt h
-
-  notes : (w : World) (cause : Cause) → Holds w → Holds (noted w now cause)
-  notes w cause h = noted_on now Any Holds (carried now Holds k) w cause tt h
-
-  received_on : (w : World) (bytes : List ℕ) (answer : Option Heard × List Item) → Holds w → Holds (received_by w now bytes answer)
-  received_on w bytes (Some (heard.Bytes n), rest) h =
-      let v = record w { items = rest; given = onto_last w.given (take n bytes); stream = fed_to w.stream (take n bytes); idle = 0 } in
-      hands_on now Any Holds (carried now Holds k) (length v.stream.rest + 1) v (k.others w v refl refl refl h)
-  received_on w bytes (Some heard.Nothing, rest) h = let v = record w { items = rest; idle = at_most 10000 (w.idle + 1) } in idles_on now Any Holds (carried now Holds k) v (k.others w v refl refl refl h)
-  received_on w bytes (Some heard.End, rest) h = let v = record w { items = rest } in notes v (c.Broke why.End) (k.others w v refl refl refl h)
-  received_on w bytes (None, rest) h = let v = record w { items = rest } in notes v (c.Broke why.Fault) (k.others w v refl refl refl h)
-
-  receives_on : (w : World) → Holds w → Holds (receives w now)
-  unfolding receives
-  receives_on w h = received_on w (present w.items) (hears 4096 w.items) h
-
-  -- ---- Lines
-
-  passes_on : (told : Told) (lines : List Line) (w : World) → Holds w → Holds (passes told lines w)
-  passes_on told lines w h = passes_with Holds (λ v others g. k.others v (record v { lines = others }) refl refl refl g) (λ v count g. k.others v (record v { listened = count }) refl refl refl g) told lines w h
-
+module _ (now : ℕ) (Holds : World → Type 0) (k : IsWalked now Holds) where
   takes_step_on : (w : World) (lines : List Line) (step : Step) → Holds w → Holds (takes_step w now lines step)
-  takes_step_on w lines (steps.Do request) h = enters (record w { lines = lines }) _ (k.others w (record w { lines = lines }) refl refl refl h)
-  takes_step_on w lines (steps.Shadow op name payload) h = receives_on w h
-  takes_step_on w lines (steps.Jobs op job payload) h = receives_on w h
-  takes_step_on w lines steps.Wait h = receives_on w h
-  takes_step_on w lines (steps.Listen count) h = receives_on w h
+  takes_step_on w lines (steps.Do request) h = k.enters (record w { lines = lines }) _ (k.lines_on w lines h)
+  takes_step_on w lines (steps.Shadow op name payload) h = k.receives_on w h
+  takes_step_on w lines (steps.Jobs op job payload) h = k.receives_on w h
+  takes_step_on w lines steps.Wait h = k.receives_on w h
+  takes_step_on w lines (steps.Listen count) h = k.receives_on w h
 
   takes_by_on : (w : World) (lines : List Line) → Holds w → Holds (takes_by w now lines)
-  takes_by_on w [] h = by_choice Holds (is_none_open w) (submits w now requests.Leave) (receives w now) (enters w _ h) (receives_on w h)
+  takes_by_on w [] h = by_choice Holds (is_none_open w) (submits w now requests.Leave) (receives w now) (k.enters w _ h) (k.receives_on w h)
   takes_by_on w (line ∷ lines) h = takes_step_on w lines line.step h
 
   takes_on : (w : World) → Holds w → Holds (takes w now)
   unfolding takes
-  takes_on w h = let v = passes (told_up w) w.lines w in takes_by_on v v.lines (passes_on (told_up w) w.lines w h)
+  takes_on w h = let v = passes (told_up w) w.lines w in takes_by_on v v.lines (passes_with Holds k.lines_on k.listened_on (told_up w) w.lines w h)
 
   ends_step_on : (w : World) (lines : List Line) (step : Step) → Holds w → Holds (ends_step w now lines step)
-  ends_step_on w lines (steps.Do request) h = enters (record w { lines = lines }) _ (k.others w (record w { lines = lines }) refl refl refl h)
-  ends_step_on w lines (steps.Shadow op name payload) h = k.others w (record w { lines = lines }) refl refl refl h
-  ends_step_on w lines (steps.Jobs op job payload) h = k.others w (record w { lines = lines }) refl refl refl h
-  ends_step_on w lines steps.Wait h = k.others w (record w { lines = lines }) refl refl refl h
-  ends_step_on w lines (steps.Listen count) h = k.others w (record w { lines = lines }) refl refl refl h
+  ends_step_on w lines (steps.Do request) h = k.enters (record w { lines = lines }) _ (k.lines_on w lines h)
+  ends_step_on w lines (steps.Shadow op name payload) h = k.lines_on w lines h
+  ends_step_on w lines (steps.Jobs op job payload) h = k.lines_on w lines h
+  ends_step_on w lines steps.Wait h = k.lines_on w lines h
+  ends_step_on w lines (steps.Listen count) h = k.lines_on w lines h
 
   ends_by_on : (w : World) (lines : List Line) → Holds w → Holds (ends_by w now lines)
-  ends_by_on w [] h = enters w _ h
+  ends_by_on w [] h = k.enters w _ h
   ends_by_on w (line ∷ lines) h = ends_step_on w lines line.step h
 
   ends_on : (w : World) → Holds w → Holds (ends w now)
   unfolding ends
-  ends_on w h = let v = passes told_off w.lines w in ends_by_on v v.lines (passes_on told_off w.lines w h)
-
-  -- ---- Rounds
-
-  opened_on : (w : World) (next : Bool × List Item) → Holds w → Holds (opened_by w now next)
-  opened_on w (true, rest) h =
-      let v = record w { items = rest; room = room_at rest; taken = w.taken ++ [] ∷ []; given = w.given ++ [] ∷ []; stream = fresh; idle = 0 } in
-      enters v c.Opened (k.others w v refl refl refl h)
-  opened_on w (false, rest) h = notes (record w { items = rest }) (c.Broke why.Fault) (k.others w (record w { items = rest }) refl refl refl h)
-
-  opening_on : (w : World) → Holds w → Holds (opening w now)
-  unfolding opening
-  opening_on w h = opened_on w (opens w.items) h
+  ends_on w h = let v = passes told_off w.lines w in ends_by_on v v.lines (passes_with Holds k.lines_on k.listened_on told_off w.lines w h)
 
   in_on : (w : World) (phase : Phase) → Holds w → Holds (acts_in w now phase)
-  in_on w Down h = opening_on w h
-  in_on w Opening h = receives_on w h
+  in_on w Down h = k.opening_on w h
+  in_on w Opening h = k.receives_on w h
   in_on w Up h = takes_on w h
   in_on w Spilled h = h
   in_on w Off h = ends_on w h
 
   by_on : (w : World) (due : Option Cause) → Holds w → Holds (acts_by w now due)
   by_on w None h = in_on w (phase_in w) h
-  by_on w (Some cause) h = enters w cause h
+  by_on w (Some cause) h = k.enters w cause h
+
+  pub walk_on : (w : World) → Holds w → Holds (acts w now)
+  walk_on w h = by_on w (due_by w.setup w.sizes (readings w.setup w.sizes w.past) now) h
+
+-- A property of the setup, the sizes and the past that entries of rows at this time carry on.
+pub record IsKept (now : ℕ) (Holds : World → Type 0) : Type 1 where
+  pub entry_on : (w : World) (cause : Cause) (found : Row) → row_in w now cause ≡ Some found → Holds w → Holds (record w { past = entry now cause found ∷ w.past })
+  pub others : (w v : World) → w.setup ≡ v.setup → w.sizes ≡ v.sizes → w.past ≡ v.past → Holds w → Holds v
+
+module _ (now : ℕ) (Holds : World → Type 0) (k : IsKept now Holds) where
+  carried : IsCarried now Any Holds
+  carried =
+      record {
+        arrived = λ packet. tt;
+        broke = λ reason. tt;
+        entry_on = λ w cause found of e h. k.entry_on w cause found e h;
+        shut_on = λ w h. k.others w (shut w) refl refl refl h;
+        wire_on = λ w bytes h. k.others w (onto_wire w bytes) refl refl refl h;
+        stream_on = λ w stream h. k.others w (record w { stream = stream }) refl refl refl h;
+        idle_on = λ w idle h. k.others w (record w { idle = idle }) refl refl refl h;
+      }
+
+  received_on : (w : World) (bytes : List ℕ) (answer : Option Heard × List Item) → Holds w → Holds (received_by w now bytes answer)
+  received_on w bytes (Some (heard.Bytes n), rest) h =
+      let v = record w { items = rest; given = onto_last w.given (take n bytes); stream = fed_to w.stream (take n bytes); idle = 0 } in
+      hands_on now Any Holds carried (length v.stream.rest + 1) v (k.others w v refl refl refl h)
+  received_on w bytes (Some heard.Nothing, rest) h = let v = record w { items = rest; idle = at_most 10000 (w.idle + 1) } in idles_on now Any Holds carried v (k.others w v refl refl refl h)
+  received_on w bytes (Some heard.End, rest) h = let v = record w { items = rest } in noted_on now Any Holds carried v (c.Broke why.End) tt (k.others w v refl refl refl h)
+  received_on w bytes (None, rest) h = let v = record w { items = rest } in noted_on now Any Holds carried v (c.Broke why.Fault) tt (k.others w v refl refl refl h)
+
+  receives_on : (w : World) → Holds w → Holds (receives w now)
+  unfolding receives
+  receives_on w h = received_on w (present w.items) (hears 4096 w.items) h
+
+  opened_on : (w : World) (next : Bool × List Item) → Holds w → Holds (opened_by w now next)
+  opened_on w (true, rest) h =
+      let v = record w { items = rest; room = room_at rest; taken = w.taken ++ [] ∷ []; given = w.given ++ [] ∷ []; stream = fresh; idle = 0 } in
+      entered_on now Any Holds carried v c.Opened tt (k.others w v refl refl refl h)
+  opened_on w (false, rest) h = let v = record w { items = rest } in noted_on now Any Holds carried v (c.Broke why.Fault) tt (k.others w v refl refl refl h)
+
+  opening_on : (w : World) → Holds w → Holds (opening w now)
+  unfolding opening
+  opening_on w h = opened_on w (opens w.items) h
 
   -- what every entry of a round keeps, the round keeps
   pub acts_on : (w : World) → Holds w → Holds (acts w now)
-  acts_on w h = by_on w (due_by w.setup w.sizes (readings w.setup w.sizes w.past) now) h
+  acts_on w h =
+      walk_on now Holds
+      (record {
+        enters = λ v cause g. entered_on now Any Holds carried v cause tt g;
+        receives_on = receives_on;
+        opening_on = opening_on;
+        lines_on = λ v lines g. k.others v (record v { lines = lines }) refl refl refl g;
+        listened_on = λ v count g. k.others v (record v { listened = count }) refl refl refl g;
+      }) w h

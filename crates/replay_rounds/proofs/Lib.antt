@@ -26,3 +26,4 @@ pub mod TiedRounds
 pub mod Times
 pub mod TiedAll
 pub mod Histories
+pub mod Fronts

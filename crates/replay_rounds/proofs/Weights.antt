@@ -6,7 +6,7 @@ use Rattle.agent_link.specs.declared.link.Heard.{Heard}
 use Rattle.agent_link.specs.declared.link.Heard.TheVariants as heard
 use Rattle.broker_tape.specs.declared.tape.Item.{Item}
 use Rattle.broker_tape.specs.declared.tape.Item.TheVariants as items
-use Rattle.broker_tape.specs.Playing.{is_opening, closed, opens, opens_at, is_used, is_empty, next, hears, hears_at, hears_of}
+use Rattle.broker_tape.specs.Playing.{is_opening, begins, closed, opens, opens_by, opens_at, is_used, is_empty, next, hears, hears_at, hears_of}
 use Rattle.replay_rounds.specs.Bound.{weight, weights}
 
 by_cond : (b : Bool) (x y : List Item) (n : ℕ) → weights x ≤ n → weights y ≤ n → weights (cond b x y) ≤ n
@@ -26,16 +26,20 @@ some_weight (items.Quiet count) = omega arith
 some_weight items.End = omega arith
 some_weight items.Fail = omega arith
 
+opens_by_less : (b : Bool) (xs : List Item) → weights (opens_by b xs).1 ≤ weights xs
+opens_by_less true xs = omega arith
+opens_by_less false xs = closed_less xs
+
 opens_at_less : (xs : List Item) → weights (opens_at xs).1 ≤ weights xs
 opens_at_less [] = omega arith
-opens_at_less (item ∷ xs) = omega arith
+opens_at_less (item ∷ xs) = let less = opens_by_less (begins item) xs in omega (arith, less)
 
 pub opens_less : (xs : List Item) → weights (opens xs).1 ≤ weights xs
 opens_less xs = let a = closed_less xs in let b = opens_at_less (closed xs) in omega (arith, a, b)
 
 begun_at_less : (xs : List Item) → (opens_at xs).0 ≡ true → weights (opens_at xs).1 < weights xs
 begun_at_less [] e = absurd (cc e)
-begun_at_less (item ∷ xs) e = let some = some_weight item in omega (arith, some)
+begun_at_less (item ∷ xs) e = let some = some_weight item in let less = opens_by_less (begins item) xs in omega (arith, some, less)
 
 -- an opening that begins a connection uses its item
 pub begun_less : (xs : List Item) → (opens xs).0 ≡ true → weights (opens xs).1 < weights xs

@@ -16,7 +16,7 @@ use Rattle.agent_table.specs.Sizes.{Sizes}
 use Rattle.agent_table.specs.Ties.{IsTied}
 use Rattle.replay_rounds.specs.Asked.{IsValidLine}
 use Rattle.replay_rounds.specs.Endings.{ending_of}
-use Rattle.broker_tape.specs.Given.{GivesBytes}
+use Rattle.broker_tape.specs.Given.{GivesBytes, AreFronts, wires}
 use Rattle.replay_rounds.specs.World.{World}
 use Rattle.replay_rounds.specs.Rounds.{after, begun, has_ended}
 use Rattle.replay_rounds.specs.Bound.{finished}
@@ -50,3 +50,8 @@ abbrev pub ReplaysAreHistories : Type 0
 ReplaysAreHistories =
     (setup : Setup) (sizes : Sizes) (tick : ℕ) (script : Script) (items : List Item) → setup.tasks ≡ 1 → AllByRecursion IsValidLine script.lines → GivesBytes items
     → IsTiedHistory setup sizes tick script (finished (begun setup sizes tick script.lines items))
+
+-- What each connection of a replay gave is a front of what the tape has for it.
+abbrev pub ReplaysHearTheirTape : Type 0
+ReplaysHearTheirTape =
+    (setup : Setup) (sizes : Sizes) (tick : ℕ) (lines : List Line) (items : List Item) → AreFronts (finished (begun setup sizes tick lines items)).given (wires items)

@@ -1,6 +1,6 @@
 //! Laws of replays, each the contract of a function that does nothing.
 
-ghost use Rattle.replay_rounds.specs.Laws.{ReplaysAreHistories, ReplaysAreLegal, ReplaysEnd, ReplaysTakeAll};
+ghost use Rattle.replay_rounds.specs.Laws.{ReplaysAreHistories, ReplaysAreLegal, ReplaysEnd, ReplaysHearTheirTape, ReplaysTakeAll};
 
 /// A replay's journal is legal: each entry is the one that the table gives after those before it.
 #[tactic(auto, using(crate::proofs::Legal::legal_after))]
@@ -27,4 +27,11 @@ pub fn replays_take_all()
 #[tactic(auto, using(crate::proofs::Histories::replays_are_histories))]
 pub fn replays_are_histories()
     ensures { ReplaysAreHistories }
+{}
+
+/// What each connection of a replay gave is a front of what the tape has for it: nothing is made up, left out in between, or
+/// given to another connection.
+#[tactic(auto, using(crate::proofs::Fronts::replays_hear_their_tape))]
+pub fn replays_hear_their_tape()
+    ensures { ReplaysHearTheirTape }
 {}
