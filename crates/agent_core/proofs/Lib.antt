@@ -3,7 +3,7 @@ mod Endings
 mod Breaks
 mod Left
 mod Takes
-mod Fresh
+mod Used
 mod Acknowledged
 mod Passes
 mod Arrivals

@@ -39,7 +39,7 @@ use Rattle.agent_core.specs.Kept.{Kept, readings_in, used_in}
 use Rattle.agent_core.specs.Renewing.{as_list}
 use Rattle.agent_core.specs.Tied.{CanOpen, CanHold, CanAsk, CanAskFor, InRange}
 use Rattle.agent_core.proofs.Breaks.{some_when}
-use Rattle.agent_core.proofs.Fresh.{among_more, among_open}
+use Rattle.agent_core.proofs.Used.{among_more, among_open}
 use Rattle.agent_core.proofs.RowFacts.{IsSentWell, take_sends, arrived_holds, connack_few}
 
 not_or : (a b : Bool) → (a || b) ≡ false → a ≡ false

@@ -9,6 +9,7 @@ pub mod Ended
 pub mod Earned
 pub mod Received
 pub mod Fresh
+pub mod Searching
 pub mod SoundPackets
 pub mod SoundRows
 pub mod SoundPasts

@@ -1,4 +1,3 @@
-mod Fresh
 mod Places
 mod Loops
 mod Granting

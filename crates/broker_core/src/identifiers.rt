@@ -6,7 +6,7 @@ ghost use Rattle.agent_table.specs.Identifiers as table;
 ghost use Rattle.broker_core.specs.Session.{without};
 
 /// The first identifier behind the last one drawn that isn't in use.
-#[tactic(auto, using(crate::proofs::Fresh::at_start, crate::proofs::Fresh::found, crate::proofs::Fresh::passed, crate::proofs::Fresh::at_end))]
+#[tactic(auto, using(agent_table::proofs::Searching::at_start, agent_table::proofs::Searching::found, agent_table::proofs::Searching::passed, agent_table::proofs::Searching::at_end))]
 pub fn fresh(last: u16, used: &[u16]) -> u16
     ensures { result ≡ table.fresh last used.now }
 {

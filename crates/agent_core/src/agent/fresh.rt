@@ -11,7 +11,7 @@ use crate::identifiers::behind;
 impl<const ACKS: usize, const IN: usize, const ROUTES: usize> Core<ACKS, IN, ROUTES> {
     /// The first identifier behind `last` that no open command and no open renewal has, and that isn't one
     /// of those drawn already.
-    #[tactic(auto, using(crate::proofs::Fresh::at_start, crate::proofs::Fresh::found, crate::proofs::Fresh::passed, crate::proofs::Fresh::at_end))]
+    #[tactic(auto, using(agent_table::proofs::Searching::at_start, agent_table::proofs::Searching::found, agent_table::proofs::Searching::passed, agent_table::proofs::Searching::at_end))]
     pub(super) fn fresh(&self, last: u16, drawn: &[u16]) -> u16
         ensures { result ≡ fresh last (drawn.now ++ used_in self.now) }
     {

@@ -2,7 +2,7 @@ use Rattle.std.proofs.Common.{◌≡◌, ◌++◌, ap, ◌∙◌, subst}
 use Rattle.std.specs.Prelude.{is_some}
 use Rattle.agent_table.specs.Deliveries.{is_among}
 use Rattle.agent_core.specs.Kept.{Kept, used_in}
-use Rattle.agent_core.proofs.Fresh.{used_is}
+use Rattle.agent_core.proofs.Used.{used_is}
 use Rattle.agent_core.proofs.agent.Core.is_used.Goals as goal
 
 pub returns : goal.returns

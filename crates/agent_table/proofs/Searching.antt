@@ -1,4 +1,4 @@
--- The search of the next identifier.
+-- The search of the next identifier, as a loop goes through it.
 use Rattle.std.proofs.Common.{◌≡◌, ℕ, zero, suc, ◌+◌, ◌-◌, ◌<◌, ◌≤◌, true, false, List, length, refl, ap, sym, ◌∙◌, arith}
 use Rattle.agent_table.specs.Deliveries.{is_among}
 use Rattle.agent_table.specs.Identifiers.{behind, first_free, fresh}
