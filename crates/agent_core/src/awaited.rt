@@ -31,9 +31,6 @@ pub fn awaits(kind: Awaited, request: &Request) -> bool
         },
         Request::Subscribe { .. } => kind == Awaited::SubAck,
         Request::Unsubscribe { .. } => kind == Awaited::UnsubAck,
-        Request::Ping => false,
-        Request::Disconnect => false,
-        Request::Terminate => false,
-        Request::Leave => false,
+        _ => false,
     }
 }

@@ -86,15 +86,8 @@ fn end_subscribe<const ROUTES: usize>(
     ensures { subscriptions.new ≡ subscribe_ended id outcome.now subscriptions.old }
 {
     match outcome {
-        Outcome::Done => subscriptions.lose(id),
         Outcome::Granted { codes } => grant(subscriptions, id, codes),
-        Outcome::NoRoom => subscriptions.lose(id),
-        Outcome::NoRoute => subscriptions.lose(id),
-        Outcome::NotConnected => subscriptions.lose(id),
-        Outcome::LinkLost => subscriptions.lose(id),
-        Outcome::SessionLost => subscriptions.lose(id),
-        Outcome::Cancelled => subscriptions.lose(id),
-        Outcome::NoMemory => subscriptions.lose(id),
+        _ => subscriptions.lose(id),
     }
 }
 
@@ -110,15 +103,5 @@ fn grant<const ROUTES: usize>(subscriptions: &mut Subscriptions<ROUTES>, id: u16
 pub fn is_done(outcome: &Outcome) -> bool
     ensures { result ≡ is_done outcome.now }
 {
-    match outcome {
-        Outcome::Done => true,
-        Outcome::Granted { .. } => false,
-        Outcome::NoRoom => false,
-        Outcome::NoRoute => false,
-        Outcome::NotConnected => false,
-        Outcome::LinkLost => false,
-        Outcome::SessionLost => false,
-        Outcome::Cancelled => false,
-        Outcome::NoMemory => false,
-    }
+    matches!(outcome, Outcome::Done)
 }

@@ -119,13 +119,8 @@ fn accepts(cause: &Cause) -> bool
     ensures { result ≡ accepts cause.now }
 {
     match cause {
-        Cause::Opened => false,
-        Cause::Take { .. } => false,
         Cause::Arrived { packet } => is_accepting(packet),
-        Cause::Broke { .. } => false,
-        Cause::Tick => false,
-        Cause::GaveUp => false,
-        Cause::Finish => false,
+        _ => false,
     }
 }
 
@@ -133,35 +128,15 @@ fn is_accepting(packet: &Packet) -> bool
     ensures { result ≡ is_accepting packet.now }
 {
     match packet {
-        Packet::Connect { .. } => false,
         Packet::ConnAck { code, .. } => *code == 0,
-        Packet::Publish { .. } => false,
-        Packet::PubAck { .. } => false,
-        Packet::PubRec { .. } => false,
-        Packet::PubRel { .. } => false,
-        Packet::PubComp { .. } => false,
-        Packet::Subscribe { .. } => false,
-        Packet::SubAck { .. } => false,
-        Packet::Unsubscribe { .. } => false,
-        Packet::UnsubAck { .. } => false,
-        Packet::PingReq => false,
-        Packet::PingResp => false,
-        Packet::Disconnect => false,
+        _ => false,
     }
 }
 
 fn is_break(cause: &Cause) -> bool
     ensures { result ≡ is_break cause.now }
 {
-    match cause {
-        Cause::Opened => false,
-        Cause::Take { .. } => false,
-        Cause::Arrived { .. } => false,
-        Cause::Broke { .. } => true,
-        Cause::Tick => false,
-        Cause::GaveUp => false,
-        Cause::Finish => false,
-    }
+    matches!(cause, Cause::Broke { .. })
 }
 
 /// The time of the first unanswered PINGREQ of the newest connection. `pings` says whether the entry sends one.
@@ -182,12 +157,8 @@ fn answered(cause: &Cause, ping: Option<u64>) -> Option<u64>
 {
     match cause {
         Cause::Opened => None,
-        Cause::Take { .. } => ping,
         Cause::Arrived { packet } => answered_by(packet, ping),
-        Cause::Broke { .. } => ping,
-        Cause::Tick => ping,
-        Cause::GaveUp => ping,
-        Cause::Finish => ping,
+        _ => ping,
     }
 }
 
@@ -195,20 +166,8 @@ fn answered_by(packet: &Packet, ping: Option<u64>) -> Option<u64>
     ensures { result ≡ answered_by packet.now ping }
 {
     match packet {
-        Packet::Connect { .. } => ping,
-        Packet::ConnAck { .. } => ping,
-        Packet::Publish { .. } => ping,
-        Packet::PubAck { .. } => ping,
-        Packet::PubRec { .. } => ping,
-        Packet::PubRel { .. } => ping,
-        Packet::PubComp { .. } => ping,
-        Packet::Subscribe { .. } => ping,
-        Packet::SubAck { .. } => ping,
-        Packet::Unsubscribe { .. } => ping,
-        Packet::UnsubAck { .. } => ping,
-        Packet::PingReq => ping,
         Packet::PingResp => None,
-        Packet::Disconnect => ping,
+        _ => ping,
     }
 }
 
@@ -221,12 +180,7 @@ pub fn sent_behind(sent: Option<u64>, at: u64, cause: &Cause, sends: bool) -> Op
     }
     match cause {
         Cause::Opened => None,
-        Cause::Take { .. } => sent,
-        Cause::Arrived { .. } => sent,
-        Cause::Broke { .. } => sent,
-        Cause::Tick => sent,
-        Cause::GaveUp => sent,
-        Cause::Finish => sent,
+        _ => sent,
     }
 }
 
@@ -235,26 +189,13 @@ pub fn takes_terminate(cause: &Cause) -> bool
     ensures { result ≡ takes_terminate cause.now }
 {
     match cause {
-        Cause::Opened => false,
         Cause::Take { request, .. } => is_terminate(request),
-        Cause::Arrived { .. } => false,
-        Cause::Broke { .. } => false,
-        Cause::Tick => false,
-        Cause::GaveUp => false,
-        Cause::Finish => false,
+        _ => false,
     }
 }
 
 fn is_terminate(request: &Request) -> bool
     ensures { result ≡ is_terminate request.now }
 {
-    match request {
-        Request::Publish { .. } => false,
-        Request::Subscribe { .. } => false,
-        Request::Unsubscribe { .. } => false,
-        Request::Ping => false,
-        Request::Disconnect => false,
-        Request::Terminate => true,
-        Request::Leave => false,
-    }
+    matches!(request, Request::Terminate)
 }

@@ -58,13 +58,9 @@ pub fn ask<const ROUTES: usize>(
     ensures same { OnErr result (subscriptions.new ≡ subscriptions.old) }
 {
     match cause {
-        Cause::Opened => Ok(()),
         Cause::Take { task, request, .. } => ask_for(alloc, subscriptions, *task, request, opened),
         Cause::Arrived { packet } => ask_again(alloc, subscriptions, packet, effects),
-        Cause::Broke { .. } => Ok(()),
-        Cause::Tick => Ok(()),
-        Cause::GaveUp => Ok(()),
-        Cause::Finish => Ok(()),
+        _ => Ok(()),
     }
 }
 
@@ -103,23 +99,11 @@ fn ask_again<const ROUTES: usize>(
     ensures same { OnErr result (subscriptions.new ≡ subscriptions.old) }
 {
     match packet {
-        Packet::Connect { .. } => Ok(()),
         Packet::ConnAck { .. } => {
             subscriptions.set_renewals(renewals_in(alloc, effects)?);
             Ok(())
         }
-        Packet::Publish { .. } => Ok(()),
-        Packet::PubAck { .. } => Ok(()),
-        Packet::PubRec { .. } => Ok(()),
-        Packet::PubRel { .. } => Ok(()),
-        Packet::PubComp { .. } => Ok(()),
-        Packet::Subscribe { .. } => Ok(()),
-        Packet::SubAck { .. } => Ok(()),
-        Packet::Unsubscribe { .. } => Ok(()),
-        Packet::UnsubAck { .. } => Ok(()),
-        Packet::PingReq => Ok(()),
-        Packet::PingResp => Ok(()),
-        Packet::Disconnect => Ok(()),
+        _ => Ok(()),
     }
 }
 
@@ -225,9 +209,7 @@ fn ends_done(t: u32, s: u32, effect: &Effect) -> bool
     ensures { result ≡ ends_done t s effect.now }
 {
     match effect {
-        Effect::Send { .. } => false,
         Effect::Done { task, seq, outcome } => *task == t && *seq == s && is_done(outcome),
-        Effect::Pass { .. } => false,
-        Effect::Closed { .. } => false,
+        _ => false,
     }
 }

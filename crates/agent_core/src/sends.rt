@@ -28,12 +28,7 @@ fn any_send(effects: &[Effect]) -> bool
 fn is_send(effect: &Effect) -> bool
     ensures { result ≡ is_send effect.now }
 {
-    match effect {
-        Effect::Send { .. } => true,
-        Effect::Done { .. } => false,
-        Effect::Pass { .. } => false,
-        Effect::Closed { .. } => false,
-    }
+    matches!(effect, Effect::Send { .. })
 }
 
 /// Whether a PINGREQ is sent.
@@ -55,31 +50,14 @@ fn pings(effect: &Effect) -> bool
 {
     match effect {
         Effect::Send { packet } => is_ping(packet),
-        Effect::Done { .. } => false,
-        Effect::Pass { .. } => false,
-        Effect::Closed { .. } => false,
+        _ => false,
     }
 }
 
 fn is_ping(packet: &Packet) -> bool
     ensures { result ≡ table.is_ping packet.now }
 {
-    match packet {
-        Packet::Connect { .. } => false,
-        Packet::ConnAck { .. } => false,
-        Packet::Publish { .. } => false,
-        Packet::PubAck { .. } => false,
-        Packet::PubRec { .. } => false,
-        Packet::PubRel { .. } => false,
-        Packet::PubComp { .. } => false,
-        Packet::Subscribe { .. } => false,
-        Packet::SubAck { .. } => false,
-        Packet::Unsubscribe { .. } => false,
-        Packet::UnsubAck { .. } => false,
-        Packet::PingReq => true,
-        Packet::PingResp => false,
-        Packet::Disconnect => false,
-    }
+    matches!(packet, Packet::PingReq)
 }
 
 /// Whether a PUBREC of this identifier is sent.
@@ -100,9 +78,7 @@ fn receives(id: u16, effect: &Effect) -> bool
 {
     match effect {
         Effect::Send { packet } => is_received(id, packet),
-        Effect::Done { .. } => false,
-        Effect::Pass { .. } => false,
-        Effect::Closed { .. } => false,
+        _ => false,
     }
 }
 
@@ -110,20 +86,8 @@ fn is_received(n: u16, packet: &Packet) -> bool
     ensures { result ≡ table.is_received n packet.now }
 {
     match packet {
-        Packet::Connect { .. } => false,
-        Packet::ConnAck { .. } => false,
-        Packet::Publish { .. } => false,
-        Packet::PubAck { .. } => false,
         Packet::PubRec { id } => *id == n,
-        Packet::PubRel { .. } => false,
-        Packet::PubComp { .. } => false,
-        Packet::Subscribe { .. } => false,
-        Packet::SubAck { .. } => false,
-        Packet::Unsubscribe { .. } => false,
-        Packet::UnsubAck { .. } => false,
-        Packet::PingReq => false,
-        Packet::PingResp => false,
-        Packet::Disconnect => false,
+        _ => false,
     }
 }
 
@@ -143,9 +107,7 @@ fn drawn(last: u16, effect: &Effect) -> u16
 {
     match effect {
         Effect::Send { packet } => drawn_by(last, packet),
-        Effect::Done { .. } => last,
-        Effect::Pass { .. } => last,
-        Effect::Closed { .. } => last,
+        _ => last,
     }
 }
 
@@ -155,25 +117,15 @@ fn drawn_by(last: u16, packet: &Packet) -> u16
     ensures { result ≡ last_or last (table.drawn_by packet.now) }
 {
     match packet {
-        Packet::Connect { .. } => last,
-        Packet::ConnAck { .. } => last,
         Packet::Publish { dup, qos, id, .. } => match (*dup, *qos) {
             (true, _) => last,
             (false, Qos::AtMostOnce) => last,
             (false, Qos::AtLeastOnce) => *id,
             (false, Qos::ExactlyOnce) => *id,
         },
-        Packet::PubAck { .. } => last,
-        Packet::PubRec { .. } => last,
-        Packet::PubRel { .. } => last,
-        Packet::PubComp { .. } => last,
         Packet::Subscribe { id, .. } => *id,
-        Packet::SubAck { .. } => last,
         Packet::Unsubscribe { id, .. } => *id,
-        Packet::UnsubAck { .. } => last,
-        Packet::PingReq => last,
-        Packet::PingResp => last,
-        Packet::Disconnect => last,
+        _ => last,
     }
 }
 
@@ -195,9 +147,7 @@ fn identified(effect: &Effect) -> Option<u16>
 {
     match effect {
         Effect::Send { packet } => command_id(packet),
-        Effect::Done { .. } => None,
-        Effect::Pass { .. } => None,
-        Effect::Closed { .. } => None,
+        _ => None,
     }
 }
 
@@ -205,23 +155,13 @@ fn command_id(packet: &Packet) -> Option<u16>
     ensures { result ≡ journal.command_id packet.now }
 {
     match packet {
-        Packet::Connect { .. } => None,
-        Packet::ConnAck { .. } => None,
         Packet::Publish { qos, id, .. } => match qos {
             Qos::AtMostOnce => None,
             Qos::AtLeastOnce => Some(*id),
             Qos::ExactlyOnce => Some(*id),
         },
-        Packet::PubAck { .. } => None,
-        Packet::PubRec { .. } => None,
-        Packet::PubRel { .. } => None,
-        Packet::PubComp { .. } => None,
         Packet::Subscribe { id, .. } => Some(*id),
-        Packet::SubAck { .. } => None,
         Packet::Unsubscribe { id, .. } => Some(*id),
-        Packet::UnsubAck { .. } => None,
-        Packet::PingReq => None,
-        Packet::PingResp => None,
-        Packet::Disconnect => None,
+        _ => None,
     }
 }

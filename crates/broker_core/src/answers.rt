@@ -129,8 +129,6 @@ fn rule(
     ensures others { OnErr result (others.new ≡ others.old) }
 {
     match packet {
-        Packet::Connect { .. } => Ok(closes(alloc)),
-        Packet::ConnAck { .. } => Ok(closes(alloc)),
         Packet::Publish { qos, topic, id, .. } => {
             publish(alloc, session, others, passed, packet, *qos, topic, *id)
         }
@@ -139,14 +137,11 @@ fn rule(
         Packet::PubRel { id } => Ok(goes_on(released(alloc, session, *id)?)),
         Packet::PubComp { id } => Ok(goes_on(completed(alloc, session, passed, *id)?)),
         Packet::Subscribe { id, asks } => Ok(goes_on(subscribe(alloc, session, *id, asks)?)),
-        Packet::SubAck { .. } => Ok(closes(alloc)),
         Packet::Unsubscribe { id, filters } => {
             Ok(goes_on(unsubscribe(alloc, session, *id, filters)?))
         }
-        Packet::UnsubAck { .. } => Ok(closes(alloc)),
         Packet::PingReq => Ok(goes_on(one(alloc, Packet::PingResp)?)),
-        Packet::PingResp => Ok(closes(alloc)),
-        Packet::Disconnect => Ok(closes(alloc)),
+        _ => Ok(closes(alloc)),
     }
 }
 

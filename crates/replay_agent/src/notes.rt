@@ -91,13 +91,7 @@ fn is_leave(cause: &Cause) -> bool
             request: Request::Leave,
             ..
         } => *task == 0,
-        Cause::Take { .. } => false,
-        Cause::Opened => false,
-        Cause::Arrived { .. } => false,
-        Cause::Broke { .. } => false,
-        Cause::Tick => false,
-        Cause::GaveUp => false,
-        Cause::Finish => false,
+        _ => false,
     }
 }
 

@@ -42,11 +42,6 @@ pub fn push_again(alloc: Global, effects: &mut Effects, command: &Pending) -> Re
             })?;
             Ok(())
         }
-        Request::Subscribe { .. } => Ok(()),
-        Request::Unsubscribe { .. } => Ok(()),
-        Request::Ping => Ok(()),
-        Request::Disconnect => Ok(()),
-        Request::Terminate => Ok(()),
-        Request::Leave => Ok(()),
+        _ => Ok(()),
     }
 }

@@ -164,12 +164,7 @@ fn asks_others(request: &Request, count: usize) -> bool
     ensures { result ≡ (table.is_subscribe request.now && not (length (asks_in request.now) == count)) }
 {
     match request {
-        Request::Publish { .. } => false,
         Request::Subscribe { asks } => asks.len() != count,
-        Request::Unsubscribe { .. } => false,
-        Request::Ping => false,
-        Request::Disconnect => false,
-        Request::Terminate => false,
-        Request::Leave => false,
+        _ => false,
     }
 }

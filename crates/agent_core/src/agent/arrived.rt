@@ -26,13 +26,7 @@ impl<const ACKS: usize, const IN: usize, const ROUTES: usize> Core<ACKS, IN, ROU
     fn hears(&self) -> bool
         ensures { (packet : Wire) → result ≡ is_some (table.arrived_in self.now.setup self.now.sizes (readings_in self.now) packet self.now.phase) }
     {
-        match self.phase {
-            Phase::Down => false,
-            Phase::Opening => true,
-            Phase::Up => true,
-            Phase::Spilled => false,
-            Phase::Off => false,
-        }
+        matches!(self.phase, Phase::Opening | Phase::Up)
     }
 
     /// Arrived.
@@ -55,20 +49,8 @@ impl<const ACKS: usize, const IN: usize, const ROUTES: usize> Core<ACKS, IN, ROU
         ensures { IfOk result (λ row. table.opening_row self.now.setup (readings_in self.now) packet.now ≡ Some row) }
     {
         match packet {
-            Packet::Connect { .. } => self.ends(),
             Packet::ConnAck { present, code } => self.answered(*present, *code),
-            Packet::Publish { .. } => self.ends(),
-            Packet::PubAck { .. } => self.ends(),
-            Packet::PubRec { .. } => self.ends(),
-            Packet::PubRel { .. } => self.ends(),
-            Packet::PubComp { .. } => self.ends(),
-            Packet::Subscribe { .. } => self.ends(),
-            Packet::SubAck { .. } => self.ends(),
-            Packet::Unsubscribe { .. } => self.ends(),
-            Packet::UnsubAck { .. } => self.ends(),
-            Packet::PingReq => self.ends(),
-            Packet::PingResp => self.ends(),
-            Packet::Disconnect => self.ends(),
+            _ => self.ends(),
         }
     }
 
@@ -78,8 +60,6 @@ impl<const ACKS: usize, const IN: usize, const ROUTES: usize> Core<ACKS, IN, ROU
         ensures { IfOk result (λ row. table.up_row self.now.setup self.now.sizes (readings_in self.now) packet.now ≡ Some row) }
     {
         match packet {
-            Packet::Connect { .. } => self.ends(),
-            Packet::ConnAck { .. } => self.ends(),
             Packet::Publish {
                 qos,
                 topic,
@@ -91,13 +71,10 @@ impl<const ACKS: usize, const IN: usize, const ROUTES: usize> Core<ACKS, IN, ROU
             Packet::PubRec { id } => self.pubrec(*id),
             Packet::PubRel { id } => self.sends(Packet::PubComp { id: *id }),
             Packet::PubComp { id } => self.pubcomp(*id),
-            Packet::Subscribe { .. } => self.ends(),
             Packet::SubAck { id, codes } => self.suback(*id, codes),
-            Packet::Unsubscribe { .. } => self.ends(),
             Packet::UnsubAck { id } => self.unsuback(*id),
-            Packet::PingReq => self.ends(),
             Packet::PingResp => Ok(self.still(Phase::Up)),
-            Packet::Disconnect => self.ends(),
+            _ => self.ends(),
         }
     }
 }

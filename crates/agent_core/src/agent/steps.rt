@@ -86,13 +86,8 @@ impl<const ACKS: usize, const IN: usize, const ROUTES: usize> Core<ACKS, IN, ROU
         ensures { result ≡ sessions.loses_session self.now.setup self.now.accepted cause.now }
     {
         match cause {
-            Cause::Opened => false,
-            Cause::Take { .. } => false,
             Cause::Arrived { packet } => self.loses_by(packet),
-            Cause::Broke { .. } => false,
-            Cause::Tick => false,
-            Cause::GaveUp => false,
-            Cause::Finish => false,
+            _ => false,
         }
     }
 
@@ -100,22 +95,10 @@ impl<const ACKS: usize, const IN: usize, const ROUTES: usize> Core<ACKS, IN, ROU
         ensures { result ≡ sessions.loses_by self.now.setup self.now.accepted packet.now }
     {
         match packet {
-            Packet::Connect { .. } => false,
             Packet::ConnAck { present, code } => {
                 *code == 0 && !*present && !self.is_wiping() && !self.is_first()
             }
-            Packet::Publish { .. } => false,
-            Packet::PubAck { .. } => false,
-            Packet::PubRec { .. } => false,
-            Packet::PubRel { .. } => false,
-            Packet::PubComp { .. } => false,
-            Packet::Subscribe { .. } => false,
-            Packet::SubAck { .. } => false,
-            Packet::Unsubscribe { .. } => false,
-            Packet::UnsubAck { .. } => false,
-            Packet::PingReq => false,
-            Packet::PingResp => false,
-            Packet::Disconnect => false,
+            _ => false,
         }
     }
 }

@@ -42,13 +42,7 @@ impl<const ACKS: usize, const IN: usize, const ROUTES: usize> Core<ACKS, IN, ROU
     fn takes_now(&self) -> bool
         ensures { (task seq : ℕ) (request : Asked) → result ≡ is_some (table.take_in self.now.setup self.now.sizes (readings_in self.now) task seq request self.now.phase) }
     {
-        match self.phase {
-            Phase::Down => false,
-            Phase::Opening => false,
-            Phase::Up => true,
-            Phase::Spilled => false,
-            Phase::Off => true,
-        }
+        matches!(self.phase, Phase::Up | Phase::Off)
     }
 
     /// Take, by a task that hasn't left.
@@ -248,13 +242,9 @@ impl<const ACKS: usize, const IN: usize, const ROUTES: usize> Core<ACKS, IN, ROU
         ensures { IfOk result (λ row. table.off_row (readings_in self.now) task seq request.now ≡ Some row) }
     {
         match request {
-            Request::Publish { .. } => self.at_once(task, seq, self.refusal(), Phase::Off),
-            Request::Subscribe { .. } => self.at_once(task, seq, self.refusal(), Phase::Off),
-            Request::Unsubscribe { .. } => self.at_once(task, seq, self.refusal(), Phase::Off),
-            Request::Ping => self.at_once(task, seq, self.refusal(), Phase::Off),
-            Request::Disconnect => self.at_once(task, seq, self.refusal(), Phase::Off),
             Request::Terminate => self.at_once(task, seq, Outcome::Done, Phase::Off),
             Request::Leave => Ok(self.still(Phase::Off)),
+            _ => self.at_once(task, seq, self.refusal(), Phase::Off),
         }
     }
 
