@@ -26,22 +26,12 @@ use Rattle.subscriptions.specs.Routing as routing
 -- ---- Tasks and connections
 
 abbrev pub takes_with : Cause → List ℕ → List ℕ
-takes_with c.Opened takes = takes
 takes_with (c.Take task seq request) takes = slice_set takes task (seq + 1)
-takes_with (c.Arrived packet) takes = takes
-takes_with (c.Broke why) takes = takes
-takes_with c.Tick takes = takes
-takes_with c.GaveUp takes = takes
-takes_with c.Finish takes = takes
+takes_with _ takes = takes
 
 abbrev pub left_with : Cause → List Bool → List Bool
-left_with c.Opened left = left
 left_with (c.Take task seq request) left = if is_leave request then slice_set left task true else left
-left_with (c.Arrived packet) left = left
-left_with (c.Broke why) left = left
-left_with c.Tick left = left
-left_with c.GaveUp left = left
-left_with c.Finish left = left
+left_with _ left = left
 
 abbrev pub breaks_with : Setup → Cause → ℕ → ℕ
 breaks_with s cause n = if accepts cause then 0 else if is_break cause then at_most (s.reopen + 2) (n + 1) else n
@@ -63,68 +53,33 @@ asked_by task requests.Terminate opened k = k
 asked_by task requests.Leave opened k = k
 
 abbrev pub asked_at : Packet → List Effect → routing.Routing → routing.Routing
-asked_at (p.Connect clean keep_alive client will user password) effects k = k
 asked_at (p.ConnAck present code) effects k = routing.renewals_set (flat_map renewal_in (sends effects)) k
-asked_at (p.Publish dup qos retain topic id payload) effects k = k
-asked_at (p.PubAck id) effects k = k
-asked_at (p.PubRec id) effects k = k
-asked_at (p.PubRel id) effects k = k
-asked_at (p.PubComp id) effects k = k
-asked_at (p.Subscribe id asks) effects k = k
-asked_at (p.SubAck id codes) effects k = k
-asked_at (p.Unsubscribe id filters) effects k = k
-asked_at (p.UnsubAck id) effects k = k
-asked_at p.PingReq effects k = k
-asked_at p.PingResp effects k = k
-asked_at p.Disconnect effects k = k
+asked_at _ effects k = k
 
 abbrev pub routing_asked : Cause → List Effect → List Pending → routing.Routing → routing.Routing
-routing_asked c.Opened effects opened k = k
 routing_asked (c.Take task seq request) effects opened k = asked_by task request opened k
 routing_asked (c.Arrived packet) effects opened k = asked_at packet effects k
-routing_asked (c.Broke why) effects opened k = k
-routing_asked c.Tick effects opened k = k
-routing_asked c.GaveUp effects opened k = k
-routing_asked c.Finish effects opened k = k
+routing_asked _ effects opened k = k
 
 -- an unsubscribe that is done with its Take, and a Leave
 abbrev pub taken_by : ℕ → ℕ → Request → List Effect → routing.Routing → routing.Routing
-taken_by task seq (requests.Publish qos topic payload) effects k = k
-taken_by task seq (requests.Subscribe asks) effects k = k
 taken_by task seq (requests.Unsubscribe filters) effects k = if list_any is_done (outcomes_in task seq effects) then routing.filters_dropped task filters k else k
-taken_by task seq requests.Ping effects k = k
-taken_by task seq requests.Disconnect effects k = k
-taken_by task seq requests.Terminate effects k = k
 taken_by task seq requests.Leave effects k = routing.task_dropped task k
+taken_by task seq _ effects k = k
 
 -- the SUBACK of an open renewal, with as many codes
 abbrev pub renewal_answered : ℕ → List ℕ → routing.Routing → routing.Routing
 renewal_answered id codes k = if is_count (routing.renewal_len id k) (length codes) then routing.renewal_granted id codes k else k
 
 abbrev pub answered_by : Packet → routing.Routing → routing.Routing
-answered_by (p.Connect clean keep_alive client will user password) k = k
-answered_by (p.ConnAck present code) k = k
-answered_by (p.Publish dup qos retain topic id payload) k = k
-answered_by (p.PubAck id) k = k
-answered_by (p.PubRec id) k = k
-answered_by (p.PubRel id) k = k
-answered_by (p.PubComp id) k = k
-answered_by (p.Subscribe id asks) k = k
 answered_by (p.SubAck id codes) k = renewal_answered id codes k
-answered_by (p.Unsubscribe id filters) k = k
-answered_by (p.UnsubAck id) k = k
-answered_by p.PingReq k = k
-answered_by p.PingResp k = k
-answered_by p.Disconnect k = k
+answered_by _ k = k
 
 abbrev pub routing_caused : Cause → List Effect → routing.Routing → routing.Routing
-routing_caused c.Opened effects k = k
 routing_caused (c.Take task seq request) effects k = taken_by task seq request effects k
 routing_caused (c.Arrived packet) effects k = answered_by packet k
 routing_caused (c.Broke why) effects k = routing.broke k
-routing_caused c.Tick effects k = k
-routing_caused c.GaveUp effects k = k
-routing_caused c.Finish effects k = k
+routing_caused _ effects k = k
 
 abbrev pub routing_lost : Bool → routing.Routing → routing.Routing
 routing_lost lost k = if lost then routing.session_lost k else k

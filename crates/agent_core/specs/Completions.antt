@@ -30,28 +30,17 @@ abbrev pub granted_or_lost : ℕ → List ℕ → Routing → Routing
 granted_or_lost id codes k = if is_count (asked_len id k) (length codes) then granted id codes k else lost id k
 
 abbrev pub subscribe_ended : ℕ → Outcome → Routing → Routing
-subscribe_ended id o.Done k = lost id k
 subscribe_ended id (o.Granted codes) k = granted_or_lost id codes k
-subscribe_ended id o.NoRoom k = lost id k
-subscribe_ended id o.NoRoute k = lost id k
-subscribe_ended id o.NotConnected k = lost id k
-subscribe_ended id o.LinkLost k = lost id k
-subscribe_ended id o.SessionLost k = lost id k
-subscribe_ended id o.Cancelled k = lost id k
-subscribe_ended id o.NoMemory k = lost id k
+subscribe_ended id _ k = lost id k
 
 -- the filters of an unsubscribe that is done are routes of its task no more
 abbrev pub unsubscribe_ended : ℕ → List (List ℕ) → Outcome → Routing → Routing
 unsubscribe_ended task filters outcome k = if is_done outcome then filters_dropped task filters k else k
 
 abbrev pub routing_ended : Pending → Request → Outcome → Routing → Routing
-routing_ended command (requests.Publish qos topic payload) outcome k = k
 routing_ended command (requests.Subscribe asks) outcome k = subscribe_ended command.id outcome k
 routing_ended command (requests.Unsubscribe filters) outcome k = unsubscribe_ended command.task filters outcome k
-routing_ended command requests.Ping outcome k = k
-routing_ended command requests.Disconnect outcome k = k
-routing_ended command requests.Terminate outcome k = k
-routing_ended command requests.Leave outcome k = k
+routing_ended command _ outcome k = k
 
 abbrev pub ended_with : Outcome → Books → Option Pending → Books
 ended_with outcome b None = b
@@ -63,10 +52,8 @@ ended_with outcome b (Some command) = record {
 
 -- behind one effect: where it is a Done of an open command, that isn't open any more
 abbrev pub ended : Books → Effect → Books
-ended b (f.Send packet) = b
 ended b (f.Done task seq outcome) = ended_with outcome b (find (is_command task seq) b.pending)
-ended b (f.Pass task message) = b
-ended b (f.Closed task) = b
+ended b _ = b
 
 abbrev pub all_ended : Books → List Effect → Books
 all_ended b [] = b

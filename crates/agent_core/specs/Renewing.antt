@@ -6,15 +6,11 @@ use Rattle.agent_table.specs.Routes.{Renewal, renewal_in, is_done}
 
 abbrev pub renews : Effect → List Renewal
 renews (f.Send packet) = renewal_in packet
-renews (f.Done task seq outcome) = []
-renews (f.Pass task message) = []
-renews (f.Closed task) = []
+renews _ = []
 
 abbrev pub ends_done : ℕ → ℕ → Effect → Bool
-ends_done t s (f.Send packet) = false
 ends_done t s (f.Done task seq outcome) = task == t && seq == s && is_done outcome
-ends_done t s (f.Pass task message) = false
-ends_done t s (f.Closed task) = false
+ends_done t s _ = false
 
 abbrev pub as_list : {X : Type 0} → Option X → List X
 as_list None = []

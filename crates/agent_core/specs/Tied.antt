@@ -41,12 +41,7 @@ pub record IsBounded (acks routes : ℕ) (routing : Routing) : Type 0 where
 -- the stages with the request of an identifier that is sent
 abbrev pub begun_by : ℕ → Request → Deliveries → Deliveries
 begun_by id (requests.Publish qos topic payload) d = started id qos d
-begun_by id (requests.Subscribe asks) d = d
-begun_by id (requests.Unsubscribe filters) d = d
-begun_by id requests.Ping d = d
-begun_by id requests.Disconnect d = d
-begun_by id requests.Terminate d = d
-begun_by id requests.Leave d = d
+begun_by id _ d = d
 
 -- ---- What is to be held has room
 
@@ -59,30 +54,13 @@ CanHoldAs AtLeastOnce n effects room held = Unit {0}
 CanHoldAs ExactlyOnce n effects room held = CanHoldAt n effects room held
 
 abbrev pub CanHoldBy : Packet → List Effect → ℕ → List ℕ → Type 0
-CanHoldBy (p.Connect clean keep_alive client will user password) effects room held = Unit {0}
-CanHoldBy (p.ConnAck present code) effects room held = Unit {0}
 CanHoldBy (p.Publish dup qos retain topic id payload) effects room held = CanHoldAs qos id effects room held
-CanHoldBy (p.PubAck id) effects room held = Unit {0}
-CanHoldBy (p.PubRec id) effects room held = Unit {0}
-CanHoldBy (p.PubRel id) effects room held = Unit {0}
-CanHoldBy (p.PubComp id) effects room held = Unit {0}
-CanHoldBy (p.Subscribe id asks) effects room held = Unit {0}
-CanHoldBy (p.SubAck id codes) effects room held = Unit {0}
-CanHoldBy (p.Unsubscribe id filters) effects room held = Unit {0}
-CanHoldBy (p.UnsubAck id) effects room held = Unit {0}
-CanHoldBy p.PingReq effects room held = Unit {0}
-CanHoldBy p.PingResp effects room held = Unit {0}
-CanHoldBy p.Disconnect effects room held = Unit {0}
+CanHoldBy _ effects room held = Unit {0}
 
 -- Where the identifier of an arrived QoS 2 PUBLISH is answered by PUBREC, it is held, or there is room to hold it.
 abbrev pub CanHold : Cause → List Effect → ℕ → List ℕ → Type 0
-CanHold c.Opened effects room held = Unit {0}
-CanHold (c.Take task seq request) effects room held = Unit {0}
 CanHold (c.Arrived packet) effects room held = CanHoldBy packet effects room held
-CanHold (c.Broke why) effects room held = Unit {0}
-CanHold c.Tick effects room held = Unit {0}
-CanHold c.GaveUp effects room held = Unit {0}
-CanHold c.Finish effects room held = Unit {0}
+CanHold _ effects room held = Unit {0}
 
 -- There is room for the command that is opened, and its identifier is fresh.
 abbrev pub CanOpen : ℕ → List Pending → Option Pending → Type 0
@@ -101,20 +79,10 @@ CanAskFor room k task requests.Terminate opened = Unit {0}
 CanAskFor room k task requests.Leave opened = Unit {0}
 
 abbrev pub CanAsk : ℕ → Routing → Cause → List Pending → Type 0
-CanAsk room k c.Opened opened = Unit {0}
 CanAsk room k (c.Take task seq request) opened = CanAskFor room k task request opened
-CanAsk room k (c.Arrived packet) opened = Unit {0}
-CanAsk room k (c.Broke why) opened = Unit {0}
-CanAsk room k c.Tick opened = Unit {0}
-CanAsk room k c.GaveUp opened = Unit {0}
-CanAsk room k c.Finish opened = Unit {0}
+CanAsk room k _ opened = Unit {0}
 
 -- A Take is of a task that there is.
 abbrev pub InRange : Cause → ℕ → ℕ → Type 0
-InRange c.Opened takes left = Unit {0}
 InRange (c.Take task seq request) takes left = (task < takes) × (task < left)
-InRange (c.Arrived packet) takes left = Unit {0}
-InRange (c.Broke why) takes left = Unit {0}
-InRange c.Tick takes left = Unit {0}
-InRange c.GaveUp takes left = Unit {0}
-InRange c.Finish takes left = Unit {0}
+InRange _ takes left = Unit {0}

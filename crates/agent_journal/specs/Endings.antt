@@ -14,20 +14,8 @@ by_code code = if code == 0 then e.Held else e.Refused code
 
 -- by a packet that arrived in Opening
 abbrev pub by_first_packet : Packet → Ending
-by_first_packet (p.Connect clean keep_alive client will user password) = e.Bytes
 by_first_packet (p.ConnAck present code) = by_code code
-by_first_packet (p.Publish dup qos retain topic id payload) = e.Bytes
-by_first_packet (p.PubAck id) = e.Bytes
-by_first_packet (p.PubRec id) = e.Bytes
-by_first_packet (p.PubRel id) = e.Bytes
-by_first_packet (p.PubComp id) = e.Bytes
-by_first_packet (p.Subscribe id asks) = e.Bytes
-by_first_packet (p.SubAck id codes) = e.Bytes
-by_first_packet (p.Unsubscribe id filters) = e.Bytes
-by_first_packet (p.UnsubAck id) = e.Bytes
-by_first_packet p.PingReq = e.Bytes
-by_first_packet p.PingResp = e.Bytes
-by_first_packet p.Disconnect = e.Bytes
+by_first_packet _ = e.Bytes
 
 abbrev pub ending_by_packet : Phase → Packet → Ending
 ending_by_packet Down packet = e.Bytes
@@ -38,13 +26,10 @@ ending_by_packet Off packet = e.Bytes
 
 -- by a cause that came in this phase and led to Off
 abbrev pub ending_by : Phase → Cause → Ending
-ending_by phase c.Opened = e.Done
-ending_by phase (c.Take task seq request) = e.Done
 ending_by phase (c.Arrived packet) = ending_by_packet phase packet
 ending_by phase (c.Broke why) = e.Bytes
-ending_by phase c.Tick = e.Done
 ending_by phase c.GaveUp = e.GaveUp
-ending_by phase c.Finish = e.Done
+ending_by phase _ = e.Done
 
 abbrev pub is_off : Phase → Bool
 is_off Down = false
@@ -74,8 +59,5 @@ last_word e.Bytes = codes "fault bytes"
 last_word e.Held = codes "fault held"
 
 abbrev pub last_code : Ending → Option ℕ
-last_code e.Done = None
-last_code e.GaveUp = None
 last_code (e.Refused code) = Some code
-last_code e.Bytes = None
-last_code e.Held = None
+last_code _ = None

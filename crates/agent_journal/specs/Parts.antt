@@ -25,29 +25,16 @@ part_text (parts.Count count) = count_text count
 part_text (parts.Spelled packet) = encode_lower (spelling packet.now)
 
 abbrev pub IsSoundPart : Part → Type 0
-IsSoundPart (parts.Plain text) = Unit {0}
-IsSoundPart (parts.Hex bytes) = Unit {0}
-IsSoundPart (parts.Payload bytes) = Unit {0}
-IsSoundPart (parts.Escaped text) = Unit {0}
-IsSoundPart (parts.Number n) = Unit {0}
-IsSoundPart (parts.Total n) = Unit {0}
-IsSoundPart (parts.Count count) = Unit {0}
 IsSoundPart (parts.Spelled packet) = is_sound packet.now ≡ true
+IsSoundPart _ = Unit {0}
 
 abbrev pub IsSoundEffect : Effect → Type 0
 IsSoundEffect (f.Send packet) = is_sound packet ≡ true
-IsSoundEffect (f.Done task seq outcome) = Unit {0}
-IsSoundEffect (f.Pass task message) = Unit {0}
-IsSoundEffect (f.Closed task) = Unit {0}
+IsSoundEffect _ = Unit {0}
 
 abbrev pub IsSoundCause : Cause → Type 0
-IsSoundCause c.Opened = Unit {0}
-IsSoundCause (c.Take task seq request) = Unit {0}
 IsSoundCause (c.Arrived packet) = is_sound packet ≡ true
-IsSoundCause (c.Broke why) = Unit {0}
-IsSoundCause c.Tick = Unit {0}
-IsSoundCause c.GaveUp = Unit {0}
-IsSoundCause c.Finish = Unit {0}
+IsSoundCause _ = Unit {0}
 
 -- Each packet in the entry has a spelling.
 pub record IsSoundEntry (e : Entry) : Type 0 where

@@ -9,13 +9,8 @@ use Rattle.agent_journal.specs.declared.effect.Effect.TheVariants as f
 use Rattle.agent_journal.specs.Readings.{is_leave, completes}
 
 abbrev pub request_in : ℕ → Cause → List Request
-request_in t c.Opened = []
 request_in t (c.Take task seq request) = if t == task then request ∷ [] else []
-request_in t (c.Arrived packet) = []
-request_in t (c.Broke why) = []
-request_in t c.Tick = []
-request_in t c.GaveUp = []
-request_in t c.Finish = []
+request_in t _ = []
 
 -- the requests of task t that were taken, Leave included
 abbrev pub requests_of : ℕ → List Entry → List Request
@@ -24,23 +19,16 @@ requests_of t (e ∷ past) = requests_of t past ++ request_in t e.cause
 
 -- how many of them are commands: all but Leave
 abbrev pub commands_by : ℕ → Cause → ℕ
-commands_by t c.Opened = 0
 commands_by t (c.Take task seq request) = if t == task && not (is_leave request) then 1 else 0
-commands_by t (c.Arrived packet) = 0
-commands_by t (c.Broke why) = 0
-commands_by t c.Tick = 0
-commands_by t c.GaveUp = 0
-commands_by t c.Finish = 0
+commands_by t _ = 0
 
 abbrev pub commands_of : ℕ → List Entry → ℕ
 commands_of t [] = 0
 commands_of t (e ∷ past) = commands_of t past + commands_by t e.cause
 
 abbrev pub is_done : ℕ → Effect → Bool
-is_done t (f.Send packet) = false
 is_done t (f.Done task seq outcome) = t == task
-is_done t (f.Pass task message) = false
-is_done t (f.Closed task) = false
+is_done t _ = false
 
 -- how many commands of task t were completed
 abbrev pub completed_of : ℕ → List Entry → ℕ
@@ -48,10 +36,8 @@ completed_of t [] = 0
 completed_of t (e ∷ past) = completed_of t past + count_by (is_done t) e.effects
 
 abbrev pub is_pass : ℕ → Effect → Bool
-is_pass t (f.Send packet) = false
-is_pass t (f.Done task seq outcome) = false
 is_pass t (f.Pass task message) = t == task
-is_pass t (f.Closed task) = false
+is_pass t _ = false
 
 -- how many messages were passed to task t
 abbrev pub messages_of : ℕ → List Entry → ℕ

@@ -27,13 +27,8 @@ last_time_of (e ∷ past) = e.at
 
 -- whether a cause is a Take of task t
 abbrev pub takes_by : ℕ → Cause → Bool
-takes_by t c.Opened = false
 takes_by t (c.Take task seq request) = t == task
-takes_by t (c.Arrived packet) = false
-takes_by t (c.Broke why) = false
-takes_by t c.Tick = false
-takes_by t c.GaveUp = false
-takes_by t c.Finish = false
+takes_by t _ = false
 
 abbrev pub takes_behind : ℕ → Cause → ℕ → ℕ
 takes_behind t cause n = if takes_by t cause then n + 1 else n
@@ -43,53 +38,26 @@ takes_of t [] = 0
 takes_of t (e ∷ past) = takes_behind t e.cause (takes_of t past)
 
 abbrev pub is_leave : Request → Bool
-is_leave (requests.Publish qos topic payload) = false
-is_leave (requests.Subscribe asks) = false
-is_leave (requests.Unsubscribe filters) = false
-is_leave requests.Ping = false
-is_leave requests.Disconnect = false
-is_leave requests.Terminate = false
 is_leave requests.Leave = true
+is_leave _ = false
 
 -- whether a cause is the Leave of task t
 abbrev pub leaves_by : ℕ → Cause → Bool
-leaves_by t c.Opened = false
 leaves_by t (c.Take task seq request) = t == task && is_leave request
-leaves_by t (c.Arrived packet) = false
-leaves_by t (c.Broke why) = false
-leaves_by t c.Tick = false
-leaves_by t c.GaveUp = false
-leaves_by t c.Finish = false
+leaves_by t _ = false
 
 abbrev pub has_left : ℕ → List Entry → Bool
 has_left t [] = false
 has_left t (e ∷ past) = leaves_by t e.cause || has_left t past
 
 abbrev pub is_accepting : Packet → Bool
-is_accepting (p.Connect clean keep_alive client will user password) = false
 is_accepting (p.ConnAck present code) = code == 0
-is_accepting (p.Publish dup qos retain topic id payload) = false
-is_accepting (p.PubAck id) = false
-is_accepting (p.PubRec id) = false
-is_accepting (p.PubRel id) = false
-is_accepting (p.PubComp id) = false
-is_accepting (p.Subscribe id asks) = false
-is_accepting (p.SubAck id codes) = false
-is_accepting (p.Unsubscribe id filters) = false
-is_accepting (p.UnsubAck id) = false
-is_accepting p.PingReq = false
-is_accepting p.PingResp = false
-is_accepting p.Disconnect = false
+is_accepting _ = false
 
 -- whether a cause is an accepted CONNACK: one of code 0
 abbrev pub accepts : Cause → Bool
-accepts c.Opened = false
-accepts (c.Take task seq request) = false
 accepts (c.Arrived packet) = is_accepting packet
-accepts (c.Broke why) = false
-accepts c.Tick = false
-accepts c.GaveUp = false
-accepts c.Finish = false
+accepts _ = false
 
 abbrev pub accepted_behind : Cause → ℕ → ℕ
 accepted_behind cause n = if accepts cause then n + 1 else n
@@ -99,13 +67,8 @@ accepted_of [] = 0
 accepted_of (e ∷ past) = accepted_behind e.cause (accepted_of past)
 
 abbrev pub is_break : Cause → Bool
-is_break c.Opened = false
-is_break (c.Take task seq request) = false
-is_break (c.Arrived packet) = false
 is_break (c.Broke why) = true
-is_break c.Tick = false
-is_break c.GaveUp = false
-is_break c.Finish = false
+is_break _ = false
 
 abbrev pub breaks_behind : Cause → ℕ → ℕ
 breaks_behind cause n = if accepts cause then 0 else if is_break cause then n + 1 else n
@@ -122,20 +85,10 @@ id_at ExactlyOnce id = Some id
 
 -- the identifier of a command's own packet, which an acknowledgement will name
 abbrev pub command_id : Packet → Option ℕ
-command_id (p.Connect clean keep_alive client will user password) = None
-command_id (p.ConnAck present code) = None
 command_id (p.Publish dup qos retain topic id payload) = id_at qos id
-command_id (p.PubAck id) = None
-command_id (p.PubRec id) = None
-command_id (p.PubRel id) = None
-command_id (p.PubComp id) = None
 command_id (p.Subscribe id asks) = Some id
-command_id (p.SubAck id codes) = None
 command_id (p.Unsubscribe id filters) = Some id
-command_id (p.UnsubAck id) = None
-command_id p.PingReq = None
-command_id p.PingResp = None
-command_id p.Disconnect = None
+command_id _ = None
 
 abbrev pub or_else : Option ℕ → Option ℕ → Option ℕ
 or_else None other = other
@@ -155,20 +108,13 @@ opened_by task seq request (Some id) = record { id = id; task = task; seq = seq;
 
 -- the command that an entry opens: a Take with a Send of its own packet
 abbrev pub opens : Cause → List Effect → List Pending
-opens c.Opened effects = []
 opens (c.Take task seq request) effects = opened_by task seq request (sent_id effects)
-opens (c.Arrived packet) effects = []
-opens (c.Broke why) effects = []
-opens c.Tick effects = []
-opens c.GaveUp effects = []
-opens c.Finish effects = []
+opens _ effects = []
 
 -- whether an effect completes command seq of a task
 abbrev pub completes : ℕ → ℕ → Effect → Bool
-completes task seq (f.Send packet) = false
 completes task seq (f.Done t s outcome) = t == task && s == seq
-completes task seq (f.Pass t message) = false
-completes task seq (f.Closed t) = false
+completes task seq _ = false
 
 abbrev pub stays_open : List Effect → Pending → Bool
 stays_open effects command = not (list_any (completes command.task command.seq) effects)

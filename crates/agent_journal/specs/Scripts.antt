@@ -10,10 +10,7 @@ use Rattle.agent_journal.specs.declared.script.Script.{Script}
 -- what a line asks of the agent
 abbrev pub asked_by : Step → List Request
 asked_by (steps.Do request) = request ∷ []
-asked_by (steps.Shadow op name payload) = []
-asked_by (steps.Jobs op job payload) = []
-asked_by steps.Wait = []
-asked_by (steps.Listen messages) = []
+asked_by _ = []
 
 -- what the lines of task t ask
 abbrev pub asked_in : ℕ → List Line → List Request

@@ -58,13 +58,9 @@ why_word why.KeepAlive = codes "keepalive"
 why_word why.InFull = codes "infull"
 
 abbrev pub why_count : Why → Option ℕ
-why_count why.Fault = None
-why_count why.End = None
-why_count why.Idle = None
 why_count (why.Bad at) = Some at
 why_count (why.TooLong len) = Some len
-why_count why.KeepAlive = None
-why_count why.InFull = None
+why_count _ = None
 
 abbrev pub count_text : Option ℕ → List ℕ
 count_text None = []
@@ -83,15 +79,8 @@ outcome_word o.Cancelled = codes "cancelled"
 outcome_word o.NoMemory = codes "nomemory"
 
 abbrev pub outcome_codes : Outcome → List ℕ
-outcome_codes o.Done = []
 outcome_codes (o.Granted bytes) = bytes
-outcome_codes o.NoRoom = []
-outcome_codes o.NoRoute = []
-outcome_codes o.NotConnected = []
-outcome_codes o.LinkLost = []
-outcome_codes o.SessionLost = []
-outcome_codes o.Cancelled = []
-outcome_codes o.NoMemory = []
+outcome_codes _ = []
 
 -- the line of a Take, with a word for its request
 abbrev pub word_line : ℕ → ℕ → ℕ → List ℕ → List ℕ

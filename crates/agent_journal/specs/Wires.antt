@@ -13,12 +13,7 @@ use Rattle.agent_journal.specs.declared.effect.Effect.TheVariants as f
 
 abbrev pub is_opened : Cause → Bool
 is_opened c.Opened = true
-is_opened (c.Take task seq request) = false
-is_opened (c.Arrived packet) = false
-is_opened (c.Broke why) = false
-is_opened c.Tick = false
-is_opened c.GaveUp = false
-is_opened c.Finish = false
+is_opened _ = false
 
 -- The entries of each connection, which begins with its Opened. Connections are counted from 0, and their entries stand in
 -- order of time.
@@ -28,9 +23,7 @@ connections (e ∷ past) = if is_opened e.cause then connections past ++ (e ∷ 
 
 abbrev pub packet_in : Effect → List Packet
 packet_in (f.Send packet) = packet ∷ []
-packet_in (f.Done task seq outcome) = []
-packet_in (f.Pass task message) = []
-packet_in (f.Closed task) = []
+packet_in _ = []
 
 -- the packets that these effects send, and their bytes
 abbrev pub sends : List Effect → List Packet
@@ -40,13 +33,8 @@ abbrev pub sent_in : List Effect → List ℕ
 sent_in effects = flat_map spelling (sends effects)
 
 abbrev pub arrives : Cause → List Packet
-arrives c.Opened = []
-arrives (c.Take task seq request) = []
 arrives (c.Arrived packet) = packet ∷ []
-arrives (c.Broke why) = []
-arrives c.Tick = []
-arrives c.GaveUp = []
-arrives c.Finish = []
+arrives _ = []
 
 -- the bytes that an entry sends
 abbrev pub sent_by : Entry → List ℕ

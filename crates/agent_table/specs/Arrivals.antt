@@ -50,20 +50,8 @@ connack_row s r present code =
 
 -- Any other packet is wrong: CONNACK is the first one that a server sends (section 3.2).
 abbrev pub opening_row : Setup → Readings → Packet → Option Row
-opening_row s r (p.Connect clean keep_alive client will user password) = ends s r
 opening_row s r (p.ConnAck present code) = connack_row s r present code
-opening_row s r (p.Publish dup qos retain topic id payload) = ends s r
-opening_row s r (p.PubAck id) = ends s r
-opening_row s r (p.PubRec id) = ends s r
-opening_row s r (p.PubRel id) = ends s r
-opening_row s r (p.PubComp id) = ends s r
-opening_row s r (p.Subscribe id asks) = ends s r
-opening_row s r (p.SubAck id codes) = ends s r
-opening_row s r (p.Unsubscribe id filters) = ends s r
-opening_row s r (p.UnsubAck id) = ends s r
-opening_row s r p.PingReq = ends s r
-opening_row s r p.PingResp = ends s r
-opening_row s r p.Disconnect = ends s r
+opening_row s r _ = ends s r
 
 -- ---- In Up
 
@@ -108,22 +96,12 @@ unfoldable pub pubcomp_row : Readings → ℕ → Option Row
 pubcomp_row r n = to Up (if is_among r.released n then all_done (publishes_at is_exactly_once n r.pending) else [])
 
 abbrev pub is_subscribe : Request → Bool
-is_subscribe (requests.Publish qos topic payload) = false
 is_subscribe (requests.Subscribe asks) = true
-is_subscribe (requests.Unsubscribe filters) = false
-is_subscribe requests.Ping = false
-is_subscribe requests.Disconnect = false
-is_subscribe requests.Terminate = false
-is_subscribe requests.Leave = false
+is_subscribe _ = false
 
 abbrev pub is_unsubscribe : Request → Bool
-is_unsubscribe (requests.Publish qos topic payload) = false
-is_unsubscribe (requests.Subscribe asks) = false
 is_unsubscribe (requests.Unsubscribe filters) = true
-is_unsubscribe requests.Ping = false
-is_unsubscribe requests.Disconnect = false
-is_unsubscribe requests.Terminate = false
-is_unsubscribe requests.Leave = false
+is_unsubscribe _ = false
 
 abbrev pub counts_of : List Pending → List ℕ
 counts_of commands = map (λ command. length (asks_in command.request)) commands
@@ -151,20 +129,15 @@ unfoldable pub unsuback_row : Readings → ℕ → Option Row
 unsuback_row r n = to Up (all_done (filter (λ command. is_unsubscribe command.request) (at n r.pending)))
 
 abbrev pub up_row : Setup → Sizes → Readings → Packet → Option Row
-up_row s l r (p.Connect clean keep_alive client will user password) = ends s r
-up_row s l r (p.ConnAck present code) = ends s r
 up_row s l r (p.Publish dup qos retain topic id payload) = publish_row s l r qos topic id payload
 up_row s l r (p.PubAck id) = puback_row r id
 up_row s l r (p.PubRec id) = pubrec_row r id
 up_row s l r (p.PubRel id) = to Up (f.Send (p.PubComp id) ∷ [])
 up_row s l r (p.PubComp id) = pubcomp_row r id
-up_row s l r (p.Subscribe id asks) = ends s r
 up_row s l r (p.SubAck id codes) = suback_row s r id codes
-up_row s l r (p.Unsubscribe id filters) = ends s r
 up_row s l r (p.UnsubAck id) = unsuback_row r id
-up_row s l r p.PingReq = ends s r
 up_row s l r p.PingResp = to Up []
-up_row s l r p.Disconnect = ends s r
+up_row s l r _ = ends s r
 
 -- ---- In any phase
 

@@ -19,36 +19,12 @@ identifies AtLeastOnce id n = id == n
 identifies ExactlyOnce id n = id == n
 
 abbrev pub is_publish_of : ℕ → Packet → Bool
-is_publish_of n (p.Connect clean keep_alive client will user password) = false
-is_publish_of n (p.ConnAck present code) = false
 is_publish_of n (p.Publish dup qos retain topic id payload) = identifies qos id n
-is_publish_of n (p.PubAck id) = false
-is_publish_of n (p.PubRec id) = false
-is_publish_of n (p.PubRel id) = false
-is_publish_of n (p.PubComp id) = false
-is_publish_of n (p.Subscribe id asks) = false
-is_publish_of n (p.SubAck id codes) = false
-is_publish_of n (p.Unsubscribe id filters) = false
-is_publish_of n (p.UnsubAck id) = false
-is_publish_of n p.PingReq = false
-is_publish_of n p.PingResp = false
-is_publish_of n p.Disconnect = false
+is_publish_of n _ = false
 
 abbrev pub is_release_of : ℕ → Packet → Bool
-is_release_of n (p.Connect clean keep_alive client will user password) = false
-is_release_of n (p.ConnAck present code) = false
-is_release_of n (p.Publish dup qos retain topic id payload) = false
-is_release_of n (p.PubAck id) = false
-is_release_of n (p.PubRec id) = false
 is_release_of n (p.PubRel id) = id == n
-is_release_of n (p.PubComp id) = false
-is_release_of n (p.Subscribe id asks) = false
-is_release_of n (p.SubAck id codes) = false
-is_release_of n (p.Unsubscribe id filters) = false
-is_release_of n (p.UnsubAck id) = false
-is_release_of n p.PingReq = false
-is_release_of n p.PingResp = false
-is_release_of n p.Disconnect = false
+is_release_of n _ = false
 
 -- whether these effects send a PUBLISH of this identifier, or its PUBREL
 abbrev pub sends_publish : ℕ → List Effect → Bool
@@ -58,30 +34,14 @@ abbrev pub sends_release : ℕ → List Effect → Bool
 sends_release n effects = list_any (is_release_of n) (sends effects)
 
 abbrev pub completes_by : ℕ → Packet → Bool
-completes_by n (p.Connect clean keep_alive client will user password) = false
 completes_by n (p.ConnAck present code) = code == 0 && not present
-completes_by n (p.Publish dup qos retain topic id payload) = false
-completes_by n (p.PubAck id) = false
-completes_by n (p.PubRec id) = false
-completes_by n (p.PubRel id) = false
 completes_by n (p.PubComp id) = id == n
-completes_by n (p.Subscribe id asks) = false
-completes_by n (p.SubAck id codes) = false
-completes_by n (p.Unsubscribe id filters) = false
-completes_by n (p.UnsubAck id) = false
-completes_by n p.PingReq = false
-completes_by n p.PingResp = false
-completes_by n p.Disconnect = false
+completes_by n _ = false
 
 -- What ends the waiting for a PUBCOMP: it arrives, or a CONNACK of code 0 that has no session present (section 3.2.2.2).
 abbrev pub ends_waiting : ℕ → Cause → Bool
-ends_waiting n c.Opened = false
-ends_waiting n (c.Take task seq request) = false
 ends_waiting n (c.Arrived packet) = completes_by n packet
-ends_waiting n (c.Broke why) = false
-ends_waiting n c.Tick = false
-ends_waiting n c.GaveUp = false
-ends_waiting n c.Finish = false
+ends_waiting n _ = false
 
 -- Whether the PUBCOMP of an identifier is awaited: its PUBREL was sent, and nothing came since that ends the waiting.
 abbrev pub awaits_completion : ℕ → List Entry → Bool

@@ -28,12 +28,7 @@ is_exactly_once ExactlyOnce = true
 -- a publish at such a quality of service
 abbrev pub publishes : (Qos → Bool) → Request → Bool
 publishes at (requests.Publish qos topic payload) = at qos
-publishes at (requests.Subscribe asks) = false
-publishes at (requests.Unsubscribe filters) = false
-publishes at requests.Ping = false
-publishes at requests.Disconnect = false
-publishes at requests.Terminate = false
-publishes at requests.Leave = false
+publishes at _ = false
 
 -- whether one of the commands has this identifier and is such a publish
 abbrev pub is_open_publish : (Qos → Bool) → List Pending → ℕ → Bool
@@ -46,29 +41,12 @@ abbrev pub with_released : List Pending → List ℕ → ℕ → List ℕ
 with_released commands released n = if is_open_publish is_exactly_once commands n && not (is_among released n) then released ++ n ∷ [] else released
 
 abbrev pub released_by : List Pending → List ℕ → Packet → List ℕ
-released_by commands released (p.Connect clean keep_alive client will user password) = released
-released_by commands released (p.ConnAck present code) = released
-released_by commands released (p.Publish dup qos retain topic id payload) = released
-released_by commands released (p.PubAck id) = released
 released_by commands released (p.PubRec id) = with_released commands released id
-released_by commands released (p.PubRel id) = released
-released_by commands released (p.PubComp id) = released
-released_by commands released (p.Subscribe id asks) = released
-released_by commands released (p.SubAck id codes) = released
-released_by commands released (p.Unsubscribe id filters) = released
-released_by commands released (p.UnsubAck id) = released
-released_by commands released p.PingReq = released
-released_by commands released p.PingResp = released
-released_by commands released p.Disconnect = released
+released_by commands released _ = released
 
 abbrev pub released_behind : List Pending → List ℕ → Cause → List ℕ
-released_behind commands released c.Opened = released
-released_behind commands released (c.Take task seq request) = released
 released_behind commands released (c.Arrived packet) = released_by commands released packet
-released_behind commands released (c.Broke why) = released
-released_behind commands released c.Tick = released
-released_behind commands released c.GaveUp = released
-released_behind commands released c.Finish = released
+released_behind commands released _ = released
 
 -- The open QoS 2 publishes that were released: a PUBREC of their identifier arrived. They stand in the order of the first
 -- one; all other open publishes are sent.
@@ -82,29 +60,13 @@ held_at AtLeastOnce n e held = held
 held_at ExactlyOnce n e held = if sends_received n e.effects && not (is_among held n) then held ++ n ∷ [] else held
 
 abbrev pub held_by : Packet → Entry → List ℕ → List ℕ
-held_by (p.Connect clean keep_alive client will user password) e held = held
-held_by (p.ConnAck present code) e held = held
 held_by (p.Publish dup qos retain topic id payload) e held = held_at qos id e held
-held_by (p.PubAck id) e held = held
-held_by (p.PubRec id) e held = held
 held_by (p.PubRel id) e held = filter (λ m. not (m == id)) held
-held_by (p.PubComp id) e held = held
-held_by (p.Subscribe id asks) e held = held
-held_by (p.SubAck id codes) e held = held
-held_by (p.Unsubscribe id filters) e held = held
-held_by (p.UnsubAck id) e held = held
-held_by p.PingReq e held = held
-held_by p.PingResp e held = held
-held_by p.Disconnect e held = held
+held_by _ e held = held
 
 abbrev pub held_behind : Cause → Entry → List ℕ → List ℕ
-held_behind c.Opened e held = held
-held_behind (c.Take task seq request) e held = held
 held_behind (c.Arrived packet) e held = held_by packet e held
-held_behind (c.Broke why) e held = held
-held_behind c.Tick e held = held
-held_behind c.GaveUp e held = held
-held_behind c.Finish e held = held
+held_behind _ e held = held
 
 -- The identifiers of QoS 2 PUBLISHes that arrived and were answered by PUBREC, in the order in which they came, unless a
 -- PUBREL of theirs came since, or the session was lost.

@@ -49,12 +49,7 @@ lose_session r = map (done o.SessionLost) (filter (λ command. is_publish comman
 
 abbrev pub again_by : ℕ → Request → List Effect
 again_by id (requests.Publish qos topic payload) = f.Send (p.Publish true qos false topic id payload) ∷ []
-again_by id (requests.Subscribe asks) = []
-again_by id (requests.Unsubscribe filters) = []
-again_by id requests.Ping = []
-again_by id requests.Disconnect = []
-again_by id requests.Terminate = []
-again_by id requests.Leave = []
+again_by id _ = []
 
 -- The PUBREL of each released publish, in the order of the first PUBRECs; then each other open publish with DUP 1, in the
 -- order of first sending, which is that of Takes.

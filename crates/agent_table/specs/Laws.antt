@@ -61,24 +61,16 @@ AcknowledgesPublish r cause id ExactlyOnce = (cause ≡ c.Arrived (p.PubComp id)
 
 abbrev pub Acknowledges : Readings → Cause → ℕ → Request → Type 0
 Acknowledges r cause id (requests.Publish qos topic payload) = AcknowledgesPublish r cause id qos
-Acknowledges r cause id (requests.Subscribe asks) = ⊥
 Acknowledges r cause id (requests.Unsubscribe filters) = cause ≡ c.Arrived (p.UnsubAck id)
-Acknowledges r cause id requests.Ping = ⊥
-Acknowledges r cause id requests.Disconnect = ⊥
-Acknowledges r cause id requests.Terminate = ⊥
-Acknowledges r cause id requests.Leave = ⊥
+Acknowledges r cause id _ = ⊥
 
 -- what is done with its own Take
 abbrev pub IsDoneAtOnce : Request → Type 0
-IsDoneAtOnce (requests.Publish AtMostOnce topic payload) = Unit {0}
 IsDoneAtOnce (requests.Publish AtLeastOnce topic payload) = ⊥
 IsDoneAtOnce (requests.Publish ExactlyOnce topic payload) = ⊥
 IsDoneAtOnce (requests.Subscribe asks) = ⊥
-IsDoneAtOnce (requests.Unsubscribe filters) = Unit {0}
-IsDoneAtOnce requests.Ping = Unit {0}
-IsDoneAtOnce requests.Disconnect = Unit {0}
-IsDoneAtOnce requests.Terminate = Unit {0}
 IsDoneAtOnce requests.Leave = ⊥
+IsDoneAtOnce _ = Unit {0}
 
 abbrev pub EarnsDone : Readings → Cause → ℕ → ℕ → Type 0
 EarnsDone r cause task seq =
@@ -93,20 +85,13 @@ EarnsCodes r cause task seq codes =
 abbrev pub EarnsOutcome : Readings → Cause → ℕ → ℕ → Outcome → Type 0
 EarnsOutcome r cause task seq o.Done = EarnsDone r cause task seq
 EarnsOutcome r cause task seq (o.Granted codes) = EarnsCodes r cause task seq codes
-EarnsOutcome r cause task seq o.NoRoom = Unit {0}
-EarnsOutcome r cause task seq o.NoRoute = Unit {0}
-EarnsOutcome r cause task seq o.NotConnected = Unit {0}
-EarnsOutcome r cause task seq o.LinkLost = Unit {0}
-EarnsOutcome r cause task seq o.SessionLost = Unit {0}
-EarnsOutcome r cause task seq o.Cancelled = Unit {0}
 EarnsOutcome r cause task seq o.NoMemory = ⊥
+EarnsOutcome r cause task seq _ = Unit {0}
 
 -- A good outcome is earned: by its own Take where the broker doesn't answer, or by the acknowledgement of its identifier.
 abbrev pub Earns : Readings → Cause → Effect → Type 0
-Earns r cause (f.Send packet) = Unit {0}
 Earns r cause (f.Done task seq outcome) = EarnsOutcome r cause task seq outcome
-Earns r cause (f.Pass task message) = Unit {0}
-Earns r cause (f.Closed task) = Unit {0}
+Earns r cause _ = Unit {0}
 
 -- In a legal journal each good outcome is earned.
 abbrev pub OutcomesAreEarned : Type 0

@@ -53,45 +53,18 @@ pub record Renewal : Type 0 where
   pub asks : List Ask
 
 abbrev pub renewal_in : Packet → List Renewal
-renewal_in (p.Connect clean keep_alive client will user password) = []
-renewal_in (p.ConnAck present code) = []
-renewal_in (p.Publish dup qos retain topic id payload) = []
-renewal_in (p.PubAck id) = []
-renewal_in (p.PubRec id) = []
-renewal_in (p.PubRel id) = []
-renewal_in (p.PubComp id) = []
 renewal_in (p.Subscribe id asks) = record { id = id; asks = asks } ∷ []
-renewal_in (p.SubAck id codes) = []
-renewal_in (p.Unsubscribe id filters) = []
-renewal_in (p.UnsubAck id) = []
-renewal_in p.PingReq = []
-renewal_in p.PingResp = []
-renewal_in p.Disconnect = []
+renewal_in _ = []
 
 abbrev pub renewals_by : Packet → List Effect → List Renewal → List Renewal
-renewals_by (p.Connect clean keep_alive client will user password) effects renewals = renewals
 renewals_by (p.ConnAck present code) effects renewals = renewals ++ flat_map renewal_in (sends effects)
-renewals_by (p.Publish dup qos retain topic id payload) effects renewals = renewals
-renewals_by (p.PubAck id) effects renewals = renewals
-renewals_by (p.PubRec id) effects renewals = renewals
-renewals_by (p.PubRel id) effects renewals = renewals
-renewals_by (p.PubComp id) effects renewals = renewals
-renewals_by (p.Subscribe id asks) effects renewals = renewals
 renewals_by (p.SubAck id codes) effects renewals = filter (λ renewal. not (renewal.id == id)) renewals
-renewals_by (p.Unsubscribe id filters) effects renewals = renewals
-renewals_by (p.UnsubAck id) effects renewals = renewals
-renewals_by p.PingReq effects renewals = renewals
-renewals_by p.PingResp effects renewals = renewals
-renewals_by p.Disconnect effects renewals = renewals
+renewals_by _ effects renewals = renewals
 
 abbrev pub renewals_behind : Cause → List Effect → List Renewal → List Renewal
-renewals_behind c.Opened effects renewals = renewals
-renewals_behind (c.Take task seq request) effects renewals = renewals
 renewals_behind (c.Arrived packet) effects renewals = renewals_by packet effects renewals
 renewals_behind (c.Broke why) effects renewals = []
-renewals_behind c.Tick effects renewals = renewals
-renewals_behind c.GaveUp effects renewals = renewals
-renewals_behind c.Finish effects renewals = renewals
+renewals_behind _ effects renewals = renewals
 
 -- The open renewals: SUBSCRIBEs that the entry of an arrived CONNACK sent, on the present connection, without a SUBACK yet.
 abbrev pub renewals_of : List Entry → List Renewal
@@ -114,54 +87,28 @@ abbrev pub refused_in : List (List ℕ × ℕ) → List (List ℕ)
 refused_in pairs = map (λ pair. pair.0) (filter (λ pair. not (nat_lt pair.1 128)) pairs)
 
 abbrev pub asks_in : Request → List Ask
-asks_in (requests.Publish qos topic payload) = []
 asks_in (requests.Subscribe asks) = asks
-asks_in (requests.Unsubscribe filters) = []
-asks_in requests.Ping = []
-asks_in requests.Disconnect = []
-asks_in requests.Terminate = []
-asks_in requests.Leave = []
+asks_in _ = []
 
 abbrev pub filters_in : Request → List (List ℕ)
-filters_in (requests.Publish qos topic payload) = []
-filters_in (requests.Subscribe asks) = []
 filters_in (requests.Unsubscribe filters) = filters
-filters_in requests.Ping = []
-filters_in requests.Disconnect = []
-filters_in requests.Terminate = []
-filters_in requests.Leave = []
+filters_in _ = []
 
 -- the outcome of a command in these effects: of its only Done, where there is one
 abbrev pub outcome_by : ℕ → ℕ → Effect → List Outcome
-outcome_by task seq (f.Send packet) = []
 outcome_by task seq (f.Done t s outcome) = if t == task && s == seq then outcome ∷ [] else []
-outcome_by task seq (f.Pass t message) = []
-outcome_by task seq (f.Closed t) = []
+outcome_by task seq _ = []
 
 abbrev pub outcomes_in : ℕ → ℕ → List Effect → List Outcome
 outcomes_in task seq effects = flat_map (outcome_by task seq) effects
 
 abbrev pub codes_by : Outcome → List ℕ
-codes_by o.Done = []
 codes_by (o.Granted codes) = codes
-codes_by o.NoRoom = []
-codes_by o.NoRoute = []
-codes_by o.NotConnected = []
-codes_by o.LinkLost = []
-codes_by o.SessionLost = []
-codes_by o.Cancelled = []
-codes_by o.NoMemory = []
+codes_by _ = []
 
 abbrev pub is_done : Outcome → Bool
 is_done o.Done = true
-is_done (o.Granted codes) = false
-is_done o.NoRoom = false
-is_done o.NoRoute = false
-is_done o.NotConnected = false
-is_done o.LinkLost = false
-is_done o.SessionLost = false
-is_done o.Cancelled = false
-is_done o.NoMemory = false
+is_done _ = false
 
 -- the filters of a subscribe that its SUBACK granted, where the effects complete it so
 abbrev pub granted_to : List Effect → Pending → List (List ℕ)
@@ -176,43 +123,22 @@ dropped_to effects task seq request = if list_any is_done (outcomes_in task seq 
 
 -- Commands that were open, and the one that is taken now: an unsubscribe may be done at once.
 abbrev pub dropped_by : Cause → List Effect → List Pending → List Route
-dropped_by c.Opened effects commands = []
 dropped_by (c.Take task seq request) effects commands = dropped_to effects task seq request
 dropped_by (c.Arrived packet) effects commands = flat_map (λ command. dropped_to effects command.task command.seq command.request) commands
-dropped_by (c.Broke why) effects commands = []
-dropped_by c.Tick effects commands = []
-dropped_by c.GaveUp effects commands = []
-dropped_by c.Finish effects commands = []
+dropped_by _ effects commands = []
 
 abbrev pub coded_by : ℕ → List ℕ → List Renewal → List (List ℕ × ℕ)
 coded_by id codes [] = []
 coded_by id codes (renewal ∷ renewals) = if renewal.id == id then coded renewal.asks codes else coded_by id codes renewals
 
 abbrev pub renewed_by : Packet → List Renewal → List (List ℕ × ℕ)
-renewed_by (p.Connect clean keep_alive client will user password) renewals = []
-renewed_by (p.ConnAck present code) renewals = []
-renewed_by (p.Publish dup qos retain topic id payload) renewals = []
-renewed_by (p.PubAck id) renewals = []
-renewed_by (p.PubRec id) renewals = []
-renewed_by (p.PubRel id) renewals = []
-renewed_by (p.PubComp id) renewals = []
-renewed_by (p.Subscribe id asks) renewals = []
 renewed_by (p.SubAck id codes) renewals = coded_by id codes renewals
-renewed_by (p.Unsubscribe id filters) renewals = []
-renewed_by (p.UnsubAck id) renewals = []
-renewed_by p.PingReq renewals = []
-renewed_by p.PingResp renewals = []
-renewed_by p.Disconnect renewals = []
+renewed_by _ renewals = []
 
 -- the filters of an open renewal whose SUBACK arrives, each with its code
 abbrev pub renewed : Cause → List Renewal → List (List ℕ × ℕ)
-renewed c.Opened renewals = []
-renewed (c.Take task seq request) renewals = []
 renewed (c.Arrived packet) renewals = renewed_by packet renewals
-renewed (c.Broke why) renewals = []
-renewed c.Tick renewals = []
-renewed c.GaveUp renewals = []
-renewed c.Finish renewals = []
+renewed _ renewals = []
 
 -- ---- Routes
 
@@ -279,13 +205,8 @@ abbrev pub grants : List Grant → ℕ → ℕ → List ℕ → Bool
 grants all task seq topics = list_any (λ grant. (grant.task == task && grant.seq == seq) && is_one_of grant.topics topics) all
 
 abbrev pub asked_by : List Grant → List ℕ → Cause → Option Qos
-asked_by all topics c.Opened = None
 asked_by all topics (c.Take task seq request) = if grants all task seq topics then last_asked (asks_in request) topics else None
-asked_by all topics (c.Arrived packet) = None
-asked_by all topics (c.Broke why) = None
-asked_by all topics c.Tick = None
-asked_by all topics c.GaveUp = None
-asked_by all topics c.Finish = None
+asked_by all topics _ = None
 
 abbrev pub or_earlier : Option Qos → Qos → Qos
 or_earlier None earlier = earlier

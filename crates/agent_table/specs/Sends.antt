@@ -16,39 +16,15 @@ abbrev pub has_send : List Effect → Bool
 has_send effects = is_some_packet (sends effects)
 
 abbrev pub is_ping : Packet → Bool
-is_ping (p.Connect clean keep_alive client will user password) = false
-is_ping (p.ConnAck present code) = false
-is_ping (p.Publish dup qos retain topic id payload) = false
-is_ping (p.PubAck id) = false
-is_ping (p.PubRec id) = false
-is_ping (p.PubRel id) = false
-is_ping (p.PubComp id) = false
-is_ping (p.Subscribe id asks) = false
-is_ping (p.SubAck id codes) = false
-is_ping (p.Unsubscribe id filters) = false
-is_ping (p.UnsubAck id) = false
 is_ping p.PingReq = true
-is_ping p.PingResp = false
-is_ping p.Disconnect = false
+is_ping _ = false
 
 abbrev pub sends_ping : List Effect → Bool
 sends_ping effects = list_any is_ping (sends effects)
 
 abbrev pub is_received : ℕ → Packet → Bool
-is_received n (p.Connect clean keep_alive client will user password) = false
-is_received n (p.ConnAck present code) = false
-is_received n (p.Publish dup qos retain topic id payload) = false
-is_received n (p.PubAck id) = false
 is_received n (p.PubRec id) = id == n
-is_received n (p.PubRel id) = false
-is_received n (p.PubComp id) = false
-is_received n (p.Subscribe id asks) = false
-is_received n (p.SubAck id codes) = false
-is_received n (p.Unsubscribe id filters) = false
-is_received n (p.UnsubAck id) = false
-is_received n p.PingReq = false
-is_received n p.PingResp = false
-is_received n p.Disconnect = false
+is_received n _ = false
 
 -- whether a PUBREC of this identifier is sent
 abbrev pub sends_received : ℕ → List Effect → Bool
@@ -63,20 +39,10 @@ drawn_at false AtLeastOnce id = id ∷ []
 drawn_at false ExactlyOnce id = id ∷ []
 
 abbrev pub drawn_by : Packet → List ℕ
-drawn_by (p.Connect clean keep_alive client will user password) = []
-drawn_by (p.ConnAck present code) = []
 drawn_by (p.Publish dup qos retain topic id payload) = drawn_at dup qos id
-drawn_by (p.PubAck id) = []
-drawn_by (p.PubRec id) = []
-drawn_by (p.PubRel id) = []
-drawn_by (p.PubComp id) = []
 drawn_by (p.Subscribe id asks) = id ∷ []
-drawn_by (p.SubAck id codes) = []
 drawn_by (p.Unsubscribe id filters) = id ∷ []
-drawn_by (p.UnsubAck id) = []
-drawn_by p.PingReq = []
-drawn_by p.PingResp = []
-drawn_by p.Disconnect = []
+drawn_by _ = []
 
 abbrev pub drawn_in : List Effect → List ℕ
 drawn_in effects = flat_map drawn_by (sends effects)

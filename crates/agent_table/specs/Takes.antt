@@ -93,13 +93,9 @@ abbrev pub refusal : Readings → Outcome
 refusal r = if r.terminated then o.Cancelled else o.NotConnected
 
 abbrev pub off_row : Readings → ℕ → ℕ → Request → Option Row
-off_row r task seq (requests.Publish qos topic payload) = to Off (at_once task seq (refusal r))
-off_row r task seq (requests.Subscribe asks) = to Off (at_once task seq (refusal r))
-off_row r task seq (requests.Unsubscribe filters) = to Off (at_once task seq (refusal r))
-off_row r task seq requests.Ping = to Off (at_once task seq (refusal r))
-off_row r task seq requests.Disconnect = to Off (at_once task seq (refusal r))
 off_row r task seq requests.Terminate = to Off (at_once task seq o.Done)
 off_row r task seq requests.Leave = to Off []
+off_row r task seq _ = to Off (at_once task seq (refusal r))
 
 -- ---- In any phase
 

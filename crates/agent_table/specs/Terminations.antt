@@ -8,22 +8,12 @@ use Rattle.agent_journal.specs.declared.entry.Entry.{Entry}
 use Rattle.agent_table.specs.Sends.{has_send}
 
 abbrev pub is_terminate : Request → Bool
-is_terminate (requests.Publish qos topic payload) = false
-is_terminate (requests.Subscribe asks) = false
-is_terminate (requests.Unsubscribe filters) = false
-is_terminate requests.Ping = false
-is_terminate requests.Disconnect = false
 is_terminate requests.Terminate = true
-is_terminate requests.Leave = false
+is_terminate _ = false
 
 abbrev pub takes_terminate : Cause → Bool
-takes_terminate c.Opened = false
 takes_terminate (c.Take task seq request) = is_terminate request
-takes_terminate (c.Arrived packet) = false
-takes_terminate (c.Broke why) = false
-takes_terminate c.Tick = false
-takes_terminate c.GaveUp = false
-takes_terminate c.Finish = false
+takes_terminate _ = false
 
 -- A Terminate was taken in Up, where it sends DISCONNECT and ends the agent. In Off it sends nothing.
 abbrev pub terminated_of : List Entry → Bool

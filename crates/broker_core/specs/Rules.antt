@@ -103,20 +103,15 @@ answers_pubrec false n clean s k = goes_on [] k
 -- ---- A packet of a client that was accepted
 
 abbrev pub rule : Bool → Session → Packet → Kept → Answer
-rule clean s (p.Connect c keep_alive client will user password) k = closes [] k
-rule clean s (p.ConnAck present code) k = closes [] k
 rule clean s (p.Publish dup qos retain topic id payload) k = publish qos clean s topic id (p.Publish dup qos retain topic id payload) k
 rule clean s (p.PubAck id) k = makes_room (list_any (is_delivery AtLeastOnce id) s.sent) clean (acknowledged id s) k
 rule clean s (p.PubRec id) k = answers_pubrec (awaits_release id s) id clean s k
 rule clean s (p.PubRel id) k = goes_on (p.PubComp id ∷ []) (with_link (Accepted clean (record s { received = without id s.received })) k)
 rule clean s (p.PubComp id) k = makes_room (is_among s.released id) clean (completed id s) k
 rule clean s (p.Subscribe id asks) k = goes_on (p.SubAck id (map return_code asks) ∷ []) (with_link (Accepted clean (record s { subscriptions = subscribed asks s.subscriptions })) k)
-rule clean s (p.SubAck id codes) k = closes [] k
 rule clean s (p.Unsubscribe id filters) k = goes_on (p.UnsubAck id ∷ []) (with_link (Accepted clean (record s { subscriptions = unsubscribed filters s.subscriptions })) k)
-rule clean s (p.UnsubAck id) k = closes [] k
 rule clean s p.PingReq k = goes_on (p.PingResp ∷ []) k
-rule clean s p.PingResp k = closes [] k
-rule clean s p.Disconnect k = closes [] k
+rule clean s _ k = closes [] k
 
 -- the messages, with this one where it is passed on
 abbrev pub passed_with : Bool → Packet → List Packet → List Packet
@@ -127,19 +122,7 @@ passed_with passes packet passed = if passes then passed ++ packet ∷ [] else p
 -- The first packet is CONNECT (MQTT-3.1.0-1).
 abbrev pub first_rule : Packet → Kept → Answer
 first_rule (p.Connect clean keep_alive client will user password) k = connect clean client k
-first_rule (p.ConnAck present code) k = closes [] k
-first_rule (p.Publish dup qos retain topic id payload) k = closes [] k
-first_rule (p.PubAck id) k = closes [] k
-first_rule (p.PubRec id) k = closes [] k
-first_rule (p.PubRel id) k = closes [] k
-first_rule (p.PubComp id) k = closes [] k
-first_rule (p.Subscribe id asks) k = closes [] k
-first_rule (p.SubAck id codes) k = closes [] k
-first_rule (p.Unsubscribe id filters) k = closes [] k
-first_rule (p.UnsubAck id) k = closes [] k
-first_rule p.PingReq k = closes [] k
-first_rule p.PingResp k = closes [] k
-first_rule p.Disconnect k = closes [] k
+first_rule _ k = closes [] k
 
 abbrev pub answer_on : Link → Packet → Kept → Answer
 answer_on Gone packet k = goes_on [] k

@@ -20,28 +20,17 @@ use Rattle.replay_rounds.specs.Endings.{ending_of}
 
 abbrev pub is_send : Effect → Bool
 is_send (f.Send packet) = true
-is_send (f.Done task seq outcome) = false
-is_send (f.Pass task message) = false
-is_send (f.Closed task) = false
+is_send _ = false
 
 abbrev pub is_fault : Why → Bool
 is_fault why.Fault = true
-is_fault why.End = false
-is_fault why.Idle = false
-is_fault (why.Bad at) = false
-is_fault (why.TooLong len) = false
-is_fault why.KeepAlive = false
-is_fault why.InFull = false
+is_fault _ = false
 
 -- What may stand behind the end, and never is the end: a request that sends nothing, and the fault of a call of the link.
 abbrev pub comes_behind : Cause → List Effect → Bool
-comes_behind c.Opened effects = false
 comes_behind (c.Take task seq request) effects = not (list_any is_send effects)
-comes_behind (c.Arrived packet) effects = false
 comes_behind (c.Broke reason) effects = is_fault reason
-comes_behind c.Tick effects = false
-comes_behind c.GaveUp effects = false
-comes_behind c.Finish effects = false
+comes_behind _ effects = false
 
 -- Directly behind Opened the phase is Opening. Which of the others it is makes no difference to how a run ends.
 abbrev pub phase_behind : Cause → Phase

@@ -40,17 +40,10 @@ abbrev pub HasFieldsOfBytes : Packet → Type 0
 HasFieldsOfBytes (p.Connect clean keep_alive client will user password) = AreBytes client × HasWillBytes will × HasSomeBytes user × HasSomeBytes password
 HasFieldsOfBytes (p.ConnAck present code) = IsByte code
 HasFieldsOfBytes (p.Publish dup qos retain topic id payload) = AreBytes topic × AreBytes payload
-HasFieldsOfBytes (p.PubAck id) = Unit {0}
-HasFieldsOfBytes (p.PubRec id) = Unit {0}
-HasFieldsOfBytes (p.PubRel id) = Unit {0}
-HasFieldsOfBytes (p.PubComp id) = Unit {0}
 HasFieldsOfBytes (p.Subscribe id asks) = AllByRecursion HasBytes asks
 HasFieldsOfBytes (p.SubAck id return_codes) = AreBytes return_codes
 HasFieldsOfBytes (p.Unsubscribe id filters) = AllByRecursion AreBytes filters
-HasFieldsOfBytes (p.UnsubAck id) = Unit {0}
-HasFieldsOfBytes p.PingReq = Unit {0}
-HasFieldsOfBytes p.PingResp = Unit {0}
-HasFieldsOfBytes p.Disconnect = Unit {0}
+HasFieldsOfBytes _ = Unit {0}
 
 pub record IsTypedPacket (packet : Packet) : Type 0 where
   pub numbers : IsOfItsTypes packet
@@ -60,39 +53,22 @@ abbrev pub IsTypedRequest : Request → Type 0
 IsTypedRequest (requests.Publish qos topic payload) = AreBytes topic × AreBytes payload
 IsTypedRequest (requests.Subscribe asks) = AllByRecursion HasBytes asks
 IsTypedRequest (requests.Unsubscribe filters) = AllByRecursion AreBytes filters
-IsTypedRequest requests.Ping = Unit {0}
-IsTypedRequest requests.Disconnect = Unit {0}
-IsTypedRequest requests.Terminate = Unit {0}
-IsTypedRequest requests.Leave = Unit {0}
+IsTypedRequest _ = Unit {0}
 
 abbrev pub IsTypedWhy : Why → Type 0
-IsTypedWhy why.Fault = Unit {0}
-IsTypedWhy why.End = Unit {0}
-IsTypedWhy why.Idle = Unit {0}
 IsTypedWhy (why.Bad at) = at < 2 ^ 64
 IsTypedWhy (why.TooLong len) = len < 2 ^ 64
-IsTypedWhy why.KeepAlive = Unit {0}
-IsTypedWhy why.InFull = Unit {0}
+IsTypedWhy _ = Unit {0}
 
 abbrev pub IsTypedCause : Cause → Type 0
-IsTypedCause c.Opened = Unit {0}
 IsTypedCause (c.Take task seq request) = (task < 2 ^ 32) × (seq < 2 ^ 32) × IsTypedRequest request
 IsTypedCause (c.Arrived packet) = IsTypedPacket packet
 IsTypedCause (c.Broke reason) = IsTypedWhy reason
-IsTypedCause c.Tick = Unit {0}
-IsTypedCause c.GaveUp = Unit {0}
-IsTypedCause c.Finish = Unit {0}
+IsTypedCause _ = Unit {0}
 
 abbrev pub IsTypedOutcome : Outcome → Type 0
-IsTypedOutcome o.Done = Unit {0}
 IsTypedOutcome (o.Granted bytes) = AreBytes bytes
-IsTypedOutcome o.NoRoom = Unit {0}
-IsTypedOutcome o.NoRoute = Unit {0}
-IsTypedOutcome o.NotConnected = Unit {0}
-IsTypedOutcome o.LinkLost = Unit {0}
-IsTypedOutcome o.SessionLost = Unit {0}
-IsTypedOutcome o.Cancelled = Unit {0}
-IsTypedOutcome o.NoMemory = Unit {0}
+IsTypedOutcome _ = Unit {0}
 
 abbrev pub IsTypedEffect : Effect → Type 0
 IsTypedEffect (f.Send packet) = IsTypedPacket packet
