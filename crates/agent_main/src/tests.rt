@@ -6,6 +6,7 @@ use agent_link::{MemSink, MemSource};
 use std::test::Fail;
 
 mod deliveries;
+mod journals;
 mod links;
 mod replays;
 
@@ -54,6 +55,19 @@ fn each_command_has_its_text_and_status(rt: HostRuntime) -> Result<(), Fail> {
             b"fault words\n".as_slice(),
             1,
         ),
+        (
+            ["replay", "--client", "dev", "--client", "x"].as_slice(),
+            PUBLISHED,
+            b"fault words\n".as_slice(),
+            1,
+        ),
+        (
+            ["replay", "--client", "dev", "--"].as_slice(),
+            PUBLISHED,
+            b"fault words\n".as_slice(),
+            1,
+        ),
+        (["replay", "--client=dev"].as_slice(), PUBLISHED, PRINTED, 0),
         (
             ["world", "--seed", "1", "--events", "10"].as_slice(),
             PUBLISHED,

@@ -3,6 +3,14 @@
 use super::*;
 use std::alloc::Global;
 
+/// A task subscribes and listens, and a message comes twice at QoS 2.
+pub(super) const LISTENED: &[u8] =
+    b"tasks 1\n0 subscribe a/# 2 a/b 1\n0 listen 1\ntape\nopen\nhear 20020000\nhear 900400010201\nhear 34090003612f62000768693c090003612f620007686962020007\n";
+
+/// What is printed of it: the message is passed once.
+pub(super) const PASSED: &[u8] =
+    b"@0 opened\n  send 100f00044d5154540400003c0003646576\n@0 arrived 20020000\n@0 take 0 0 subscribe a/# 2 a/b 1\n  send 820e00010003612f23020003612f6201\n@0 arrived 900400010201\n  done 0 0 granted 0201\n@0 arrived 34090003612f6200076869\n  pass 0 2 a/b 6869\n  send 50020007\n@0 arrived 3c090003612f6200076869\n  send 50020007\n@0 arrived 62020007\n  send 70020007\n@0 take 0 1 leave\n@0 finish\n  send e000\ntask 0 sent 1 got 1 messages 1\nok\n";
+
 /// Whether these words with this source write this text and have this status.
 pub(super) fn answers(
     alloc: Global,
@@ -91,8 +99,8 @@ fn messages_are_passed_once(rt: HostRuntime) -> Result<(), Fail> {
     for (words, text, want, status) in [
         (
             ["replay", "--client", "dev"].as_slice(),
-            b"tasks 1\n0 subscribe a/# 2 a/b 1\n0 listen 1\ntape\nopen\nhear 20020000\nhear 900400010201\nhear 34090003612f62000768693c090003612f620007686962020007\n".as_slice(),
-            b"@0 opened\n  send 100f00044d5154540400003c0003646576\n@0 arrived 20020000\n@0 take 0 0 subscribe a/# 2 a/b 1\n  send 820e00010003612f23020003612f6201\n@0 arrived 900400010201\n  done 0 0 granted 0201\n@0 arrived 34090003612f6200076869\n  pass 0 2 a/b 6869\n  send 50020007\n@0 arrived 3c090003612f6200076869\n  send 50020007\n@0 arrived 62020007\n  send 70020007\n@0 take 0 1 leave\n@0 finish\n  send e000\ntask 0 sent 1 got 1 messages 1\nok\n".as_slice(),
+            LISTENED,
+            PASSED,
             0,
         ),
         (
