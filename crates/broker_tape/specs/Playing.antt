@@ -4,6 +4,7 @@ use Rattle.broker_tape.specs.declared.tape.Item.{Item}
 use Rattle.broker_tape.specs.declared.tape.Item.TheVariants as items
 use Rattle.agent_link.specs.declared.link.Heard.{Heard}
 use Rattle.agent_link.specs.declared.link.Heard.TheVariants as heard
+use Rattle.agent_link.specs.Counts.{LinkCounts}
 
 pub record Playing : Type 0 where
   -- the items that are left
@@ -17,6 +18,10 @@ pub record Playing : Type 0 where
   pub ends : ℕ
   pub nothings : ℕ
 
+-- what it has counted
+abbrev pub counts : Playing → LinkCounts
+counts p = record { faults = p.faults; ends = p.ends; nothings = p.nothings }
+
 -- a tape that wasn't begun
 abbrev pub unplayed : List Item → Playing
 unplayed items = record { left = items; room = Some 0; taken = []; given = []; faults = 0; ends = 0; nothings = 0 }
@@ -24,11 +29,7 @@ unplayed items = record { left = items; room = Some 0; taken = []; given = []; f
 abbrev pub is_opening : Item → Bool
 is_opening items.Open = true
 is_opening items.Refuse = true
-is_opening (items.Room count) = false
-is_opening (items.Hear bytes) = false
-is_opening (items.Quiet count) = false
-is_opening items.End = false
-is_opening items.Fail = false
+is_opening _ = false
 
 -- Up to the next opening: what a connection left unused is gone.
 abbrev pub closed : List Item → List Item
@@ -37,12 +38,7 @@ closed (item ∷ rest) = if is_opening item then item ∷ rest else closed rest
 
 abbrev pub begins : Item → Bool
 begins items.Open = true
-begins items.Refuse = false
-begins (items.Room count) = false
-begins (items.Hear bytes) = false
-begins (items.Quiet count) = false
-begins items.End = false
-begins items.Fail = false
+begins _ = false
 
 abbrev pub opens_by : Bool → List Item → Bool × List Item
 opens_by true rest = (true, rest)
@@ -58,13 +54,8 @@ abbrev pub opens : List Item → Bool × List Item
 opens left = opens_at (closed left)
 
 abbrev pub room_in : Item → Option ℕ
-room_in items.Open = None
-room_in items.Refuse = None
 room_in (items.Room count) = Some count
-room_in (items.Hear bytes) = None
-room_in (items.Quiet count) = None
-room_in items.End = None
-room_in items.Fail = None
+room_in _ = None
 
 -- how many bytes a connection takes that begins with these items, where that is bounded
 abbrev pub room_at : List Item → Option ℕ
@@ -87,13 +78,10 @@ is_empty (b ∷ bytes) = false
 
 -- what a receive passes over: a room, and what was played to its end
 abbrev pub is_used : Item → Bool
-is_used items.Open = false
-is_used items.Refuse = false
 is_used (items.Room count) = true
 is_used (items.Hear bytes) = is_empty bytes
 is_used (items.Quiet count) = count == 0
-is_used items.End = false
-is_used items.Fail = false
+is_used _ = false
 
 -- from the item on that a receive meets
 abbrev pub next : List Item → List Item
@@ -119,13 +107,8 @@ abbrev pub hears : ℕ → List Item → Option Heard × List Item
 hears space left = hears_at space (next left)
 
 abbrev pub bytes_of : Item → List ℕ
-bytes_of items.Open = []
-bytes_of items.Refuse = []
-bytes_of (items.Room count) = []
 bytes_of (items.Hear bytes) = bytes
-bytes_of (items.Quiet count) = []
-bytes_of items.End = []
-bytes_of items.Fail = []
+bytes_of _ = []
 
 abbrev pub bytes_at : List Item → List ℕ
 bytes_at [] = []

@@ -3,9 +3,9 @@
 ghost use Rattle.std.specs.Prelude.{◌≡◌, ◌≢◌, ℕ, ◌+◌, ◌^◌, ◌<◌, ◌≤◌, ◌↔◌, [], ◌∷◌, ◌++◌, length, drop, take, slice_get, true, false, Some, None, IfOk, IfSome, IsErrOf, OnOk, OnErr, Ok};
 ghost use Rattle.std.specs.Option.{option_map};
 ghost use Rattle.std.specs.Io.{WritesAtMost};
-ghost use Rattle.agent_link.specs.Counts.{Counted, raised};
+ghost use Rattle.agent_link.specs.Counts.{Counted, raised, with_fault, with_end, with_nothing};
 ghost use Rattle.agent_link.specs.Wires.{after_open, after_send, after_recv, onto_last, FitsIn, IsFrontOf};
-ghost use Rattle.broker_tape.specs.Playing.{unplayed, closed, opens, room_at, hears, present, fitting, room_behind, advance};
+ghost use Rattle.broker_tape.specs.Playing.{unplayed, closed, counts, opens, room_at, hears, present, fitting, room_behind, advance};
 
 use crate::played::{append_last, begin, front_of, next_item, next_opening, room_at};
 use crate::tape::{Item, Tape};
@@ -105,6 +105,10 @@ impl Link for TapeLink {
         ensures failed { IsErrOf result Fault.Failed → (false, self.new.left) ≡ opens self.old.left }
         ensures kept { OnErr result (self.new.room ≡ self.old.room) }
         ensures memory { IsErrOf result Fault.NoMemory → self.new ≡ self.old }
+
+        // A call that fails is counted, and no other.
+        ensures counted { IsErrOf result Fault.Failed → counts self.new ≡ with_fault (counts self.old) }
+        ensures uncounted { OnOk result (counts self.new ≡ counts self.old) }
     {
         let next = next_opening(self.items.as_slice(), self.at);
         match self.items.get(next) {
@@ -147,6 +151,10 @@ impl Link for TapeLink {
         ensures left { self.new.left ≡ self.old.left }
         ensures kept { OnErr result (self.new.room ≡ self.old.room) }
         ensures memory { IsErrOf result Fault.NoMemory → self.new ≡ self.old }
+
+        // A call that fails is counted, and no other.
+        ensures counted { IsErrOf result Fault.Failed → counts self.new ≡ with_fault (counts self.old) }
+        ensures uncounted { OnOk result (counts self.new ≡ counts self.old) }
     {
         let count = match self.room {
             Some(room) if room < bytes.len() as u64 => room as usize,
@@ -180,6 +188,12 @@ impl Link for TapeLink {
         ensures failed { IsErrOf result Fault.Failed → (None, self.new.left) ≡ hears (length buf.old) self.old.left }
         ensures room { self.new.room ≡ self.old.room }
         ensures memory { IsErrOf result Fault.NoMemory → self.new ≡ self.old }
+
+        // A receive that fails is counted, and so is one that finds the end or hears nothing; one that brings bytes isn't.
+        ensures counted { IsErrOf result Fault.Failed → counts self.new ≡ with_fault (counts self.old) }
+        ensures ended { result ≡ Ok Heard.End → counts self.new ≡ with_end (counts self.old) }
+        ensures idle { result ≡ Ok Heard.Nothing → counts self.new ≡ with_nothing (counts self.old) }
+        ensures uncounted { (n : ℕ) → result ≡ Ok (Heard.Bytes n) → counts self.new ≡ counts self.old }
     {
         let (at, played) = next_item(self.items.as_slice(), self.at, self.played);
         match self.items.get(at) {
@@ -228,6 +242,7 @@ impl Link for TapeLink {
         // What the connection left unused is gone, and it takes nothing more.
         ensures left { self.new.left ≡ closed self.old.left }
         ensures room { self.new.room ≡ Some 0 }
+        ensures uncounted { counts self.new ≡ counts self.old }
     {
         self.at = next_opening(self.items.as_slice(), self.at);
         self.played = 0;

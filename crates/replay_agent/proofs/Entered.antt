@@ -1,11 +1,11 @@
 -- Entries that were made, and those for which there is no row.
 use Rattle.std.proofs.Common.{◌≡◌, ℕ, ◌+◌, ◌*◌, ◌^◌, ◌<◌, ◌≤◌, true, false, List, [], ◌∷◌, ◌++◌, length, take, drop, cond, reverse, Option, Some, None, is_some, refl, sym, ap, ◌∙◌, subst, arith, length-append, length-take}
-use Rattle.std.specs.Prelude.{◌||◌, count_by, nat_lt}
-use Rattle.std.proofs.lemmas.Bool.{lt-ltb, le-ltb}
+use Rattle.std.specs.Prelude.{◌||◌, ◌==◌, count_by, nat_lt}
+use Rattle.std.proofs.lemmas.Bool.{lt-ltb, le-ltb, eqb-false}
 use Rattle.std.specs.List.{AllByRecursion, list_any}
 use Rattle.std.proofs.lemmas.List.{reverse-append, take_all}
 use Rattle.agent_link.specs.Wires.{onto_last}
-use Rattle.broker_tape.specs.Playing.{fitting, room_behind}
+use Rattle.broker_tape.specs.Playing.{counts, fitting, room_behind}
 use Rattle.agent_journal.specs.declared.entry.Cause.{Cause}
 use Rattle.agent_journal.specs.declared.entry.Cause.TheVariants as c
 use Rattle.agent_journal.specs.declared.entry.Why.TheVariants as why
@@ -26,7 +26,7 @@ use Rattle.agent_core.specs.Stands.{StandsFor}
 use Rattle.agent_core.proofs.Standing.{rows_are_same}
 use Rattle.agent_table.specs.Rows.{Row}
 use Rattle.replay_rounds.specs.World.{World, row_in, settled}
-use Rattle.replay_rounds.specs.Entering.{entry, noted, noted_by, onto_wire, sends, sends_some, entered, entered_by}
+use Rattle.replay_rounds.specs.Entering.{entry, noted, noted_by, failed, onto_wire, sends, sends_some, entered, entered_by}
 use Rattle.replay_rounds.specs.Lines.{is_closed}
 use Rattle.replay_rounds.specs.Endings.{ending_of}
 use Rattle.replay_agent.specs.declared.run.Run.{Run}
@@ -140,6 +140,7 @@ made_behind core new old now at cause e bytes clock link splitter idle gone list
             given = (link i).given;
             stream = splitter i;
             idle = idle i;
+            counts = counts (link i);
           };
       spelled = spelled ∙ ap sent_in (sym found.2);
     }
@@ -151,14 +152,14 @@ length_some bytes n less = length-take n bytes ∙ (omega (arith, less))
 
 -- a part of the bytes was taken, and the link failed
 pub sent_short : (w : World) (at n : ℕ) (bytes : List ℕ) → n ≡ fitting w.room (length bytes) → n < length bytes
-    → noted (record w { idle = 0; taken = onto_last w.taken (take n bytes); room = room_behind w.room n }) at (c.Broke why.Fault) ≡ sends w at bytes
+    → noted (failed (record w { idle = 0; taken = onto_last w.taken (take n bytes); room = room_behind w.room n })) at (c.Broke why.Fault) ≡ sends w at bytes
 sent_short w at n [] fits short = absurd (omega (arith, short))
 sent_short w at n (b ∷ bytes) fits short =
     let u : World = record w { idle = 0 } in
     let len : length (take n (b ∷ bytes)) ≡ n = length_some (b ∷ bytes) n (omega (arith, short)) in
     let less : nat_lt n (length (b ∷ bytes)) ≡ true = lt-ltb n (length (b ∷ bytes)) short in
-    (λ i. noted (record u { taken = onto_last w.taken (take n (b ∷ bytes)); room = room_behind w.room (sym len i) }) at (c.Broke why.Fault))
-    ∙ sym (ap (λ x. cond x (noted (onto_wire u (take n (b ∷ bytes))) at (c.Broke why.Fault)) (settled (onto_wire u (b ∷ bytes)))) less) ∙ ap (sends_some u at (b ∷ bytes)) fits
+    (λ i. noted (failed (record u { taken = onto_last w.taken (take n (b ∷ bytes)); room = room_behind w.room (sym len i) })) at (c.Broke why.Fault))
+    ∙ sym (ap (λ x. cond x (noted (failed (onto_wire u (take n (b ∷ bytes)))) at (c.Broke why.Fault)) (settled (onto_wire u (b ∷ bytes)))) less) ∙ ap (sends_some u at (b ∷ bytes)) fits
 
 -- all bytes were taken
 pub sent_whole : (w : World) (at n : ℕ) (bytes : List ℕ) → n ≡ fitting w.room (length bytes) → length bytes ≤ n → 0 < length bytes
@@ -169,11 +170,12 @@ sent_whole w at n (b ∷ bytes) fits whole some =
     let all : n ≡ length (b ∷ bytes) = by_most w.room n (length (b ∷ bytes)) fits whole in
     let less : nat_lt n (length (b ∷ bytes)) ≡ false = le-ltb n (length (b ∷ bytes)) whole in
     (λ i. settled (record u { taken = onto_last w.taken (take_all n (b ∷ bytes) whole i); room = room_behind w.room (all i) }))
-    ∙ sym (ap (λ x. cond x (noted (onto_wire u (take n (b ∷ bytes))) at (c.Broke why.Fault)) (settled (onto_wire u (b ∷ bytes)))) less) ∙ ap (sends_some u at (b ∷ bytes)) fits
+    ∙ sym (ap (λ x. cond x (noted (failed (onto_wire u (take n (b ∷ bytes)))) at (c.Broke why.Fault)) (settled (onto_wire u (b ∷ bytes)))) less) ∙ ap (sends_some u at (b ∷ bytes)) fits
   where
     by_most : (room : Option ℕ) (n len : ℕ) → n ≡ fitting room len → len ≤ n → n ≡ len
     by_most room n len fits whole = let most = fits_within room len in omega (arith, fits, whole, most)
 
-pub some_bytes : (bytes : List ℕ) → (length bytes ≡ 0 → ⊥) → 0 < length bytes
-some_bytes [] h = absurd (h refl)
-some_bytes (b ∷ bytes) h = omega arith
+-- bytes that aren't empty
+pub some_bytes : (bytes : List ℕ) (count : ℕ) → length bytes ≡ count → false ≡ (count == 0) → 0 < length bytes
+some_bytes [] count e some = absurd (eqb-false count 0 (sym some) (sym e))
+some_bytes (b ∷ bytes) count e some = omega arith

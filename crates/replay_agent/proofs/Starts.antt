@@ -3,7 +3,7 @@ use Rattle.std.proofs.Common.{◌≡◌, ℕ, ◌≤◌, true, false, List, [], 
 use Rattle.std.specs.List.{AllByRecursion}
 use Rattle.std.proofs.lemmas.List.{reverse-append, reverse-reverse}
 use Rattle.broker_tape.specs.declared.tape.Item.{Item}
-use Rattle.broker_tape.specs.Playing.{unplayed}
+use Rattle.broker_tape.specs.Playing.{counts, unplayed}
 use Rattle.agent_journal.specs.declared.entry.Entry.{Entry}
 use Rattle.agent_journal.specs.declared.ending.Ending.{Ending}
 use Rattle.agent_journal.specs.declared.request.Request.TheVariants as requests
@@ -59,6 +59,7 @@ module _ (setup : Setup) (sizes : Sizes) (tick : ℕ) (items : List Item) (core 
         given = (h.link i).given;
         stream = h.stream i;
         idle = h.fresh_is.2 i;
+        counts = counts (h.link i);
       }
 
   pub start_sound : is_client setup.client ≡ true → IsSound core run

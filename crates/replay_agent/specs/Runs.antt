@@ -1,5 +1,6 @@
 -- The world that a run of the code stands for.
 use Rattle.std.specs.Prelude.{◌≡◌, ℕ, ◌*◌, ◌^◌, ◌≤◌, true, List, reverse, drop, length}
+use Rattle.broker_tape.specs.Playing.{counts}
 use Rattle.agent_journal.specs.declared.entry.Entry.{Entry}
 use Rattle.agent_journal.specs.declared.script.Line.{Line}
 use Rattle.agent_journal.specs.declared.setup.Setup.{Setup}
@@ -30,6 +31,7 @@ world core run lines =
       given = run.link.given;
       stream = run.splitter;
       idle = run.idle;
+      counts = counts run.link;
     }
 
 -- what the run knows of its journal

@@ -2,6 +2,7 @@
 
 ghost use Rattle.std.specs.Prelude.{◌≡◌, ◌<◌, ◌≤◌, ℕ, length, reverse, true, Some, IfOk};
 ghost use Rattle.std.specs.List.{AllByRecursion};
+ghost use Rattle.broker_tape.specs.Playing.{counts};
 ghost use Rattle.agent_journal.specs.Parts.{IsSoundEntry};
 ghost use Rattle.agent_journal.specs.Projections.{messages_of};
 ghost use Rattle.agent_journal.specs.Setups.{is_client};
@@ -28,7 +29,7 @@ pub struct Replayed {
     pub messages: u128,
     /// How the agent ended.
     pub ending: Ending,
-    /// What each connection took and gave.
+    /// What each connection took and gave, and what was counted.
     pub link: TapeLink,
 }
 
@@ -50,6 +51,7 @@ pub fn replay<const ACKS: usize, const IN: usize, const ROUTES: usize>(
     // The link is one that the tape plays.
     ensures took { IfOk result (λ r. r.link.taken ≡ (finished (begun setup (sizes_of ACKS IN ROUTES) tick script.now.lines tape)).taken) }
     ensures gave { IfOk result (λ r. r.link.given ≡ (finished (begun setup (sizes_of ACKS IN ROUTES) tick script.now.lines tape)).given) }
+    ensures counted { IfOk result (λ r. counts r.link ≡ (finished (begun setup (sizes_of ACKS IN ROUTES) tick script.now.lines tape)).counts) }
     ensures sound { IfOk result (λ r. AllByRecursion IsSoundEntry r.journal) }
     ensures messages { IfOk result (λ r. r.messages ≡ messages_of 0 (reverse r.journal)) }
     ensures ending { IfOk result (λ r. Some r.ending ≡ ending_of setup (sizes_of ACKS IN ROUTES) (reverse r.journal)) }

@@ -3,8 +3,9 @@
 ghost use Rattle.std.specs.Prelude.{◌≡◌, ◌∷◌, ◌+◌, ◌-◌, ◌<◌, ◌≤◌, ◌++◌, ℕ, [], List, true, false, length, take, nat_lt, IfOk, OnOk};
 ghost use Rattle.std.specs.List.{AllByRecursion};
 ghost use Rattle.mqtt_packet.specs.Spelling as spelling;
+ghost use Rattle.agent_link.specs.Counts.{with_fault};
 ghost use Rattle.agent_link.specs.Wires.{onto_last};
-ghost use Rattle.broker_tape.specs.Playing.{fitting, room_behind};
+ghost use Rattle.broker_tape.specs.Playing.{counts, fitting, room_behind};
 ghost use Rattle.agent_journal.specs.Parts.{IsSoundEffect};
 ghost use Rattle.agent_journal.specs.Wires.{sent_in};
 
@@ -61,6 +62,9 @@ pub(crate) fn send_all(link: &mut TapeLink, bytes: &[u8]) -> Result<usize, NoMem
     ensures room { IfOk result (λ n. link.new.room ≡ room_behind link.old.room n) }
     ensures given { IfOk result (λ _. link.new.given ≡ link.old.given) }
     ensures left { IfOk result (λ _. link.new.left ≡ link.old.left) }
+    // Where that isn't all, the last call failed, and it alone.
+    ensures counted { IfOk result (λ n. n < length bytes.now → counts link.new ≡ with_fault (counts link.old)) }
+    ensures uncounted { IfOk result (λ n. length bytes.now ≤ n → counts link.new ≡ counts link.old) }
 {
     let mut sent = 0;
     'pieces: while sent < bytes.len() {

@@ -6,6 +6,7 @@ use Rattle.mqtt_packet.specs.declared.packet.Packet.{Packet}
 use Rattle.mqtt_packet.specs.Steps.{fed_to}
 use Rattle.agent_link.specs.declared.link.Heard.{Heard}
 use Rattle.agent_link.specs.declared.link.Heard.TheVariants as heard
+use Rattle.agent_link.specs.Counts.{with_end, with_nothing}
 use Rattle.agent_link.specs.Wires.{onto_last}
 use Rattle.broker_tape.specs.declared.tape.Item.{Item}
 use Rattle.broker_tape.specs.Playing.{opens, room_at, hears, present}
@@ -30,7 +31,7 @@ use Rattle.agent_table.specs.Readings.{at_most}
 use Rattle.agent_table.specs.Rows.{Row}
 use Rattle.replay_rounds.specs.Asked.{IsValidLine, IsValidStep, leave_of, taken_and_left}
 use Rattle.replay_rounds.specs.World.{World, phase_in, row_in}
-use Rattle.replay_rounds.specs.Entering.{entry, noted, entered, entered_by}
+use Rattle.replay_rounds.specs.Entering.{entry, noted, failed, entered, entered_by}
 use Rattle.replay_rounds.specs.Receiving.{hands, idles, received_by, receives}
 use Rattle.replay_rounds.specs.Lines.{Told, passes, passes_step, submits, is_none_open, takes_step, takes_by, takes, told_up, told_off, ends_step, ends_by, ends}
 use Rattle.replay_rounds.specs.Rounds.{fresh, opened_by, opening, acts_in, acts_by, acts, has_ended}
@@ -74,12 +75,14 @@ carried : (now : ℕ) (w : World) → IsCarried now TakesNone (Asks w)
 carried now w =
     record {
       arrived = λ packet. refl;
-      broke = λ reason. refl;
+      rejected = λ reason bad. refl;
       entry_on = λ v cause found none e h. asks_entry w v now cause found none h;
+      failed_on = λ v h. record { lines = h.lines; takes = h.takes; requests = h.requests; left = h.left };
+      fault_on = λ v found e h. asks_entry w (failed v) now (c.Broke why.Fault) found refl (record { lines = h.lines; takes = h.takes; requests = h.requests; left = h.left });
       shut_on = λ v h. record { lines = h.lines; takes = h.takes; requests = h.requests; left = h.left };
       wire_on = λ v bytes h. record { lines = h.lines; takes = h.takes; requests = h.requests; left = h.left };
       stream_on = λ v stream h. record { lines = h.lines; takes = h.takes; requests = h.requests; left = h.left };
-      idle_on = λ v idle h. record { lines = h.lines; takes = h.takes; requests = h.requests; left = h.left };
+      busy_on = λ v h. record { lines = h.lines; takes = h.takes; requests = h.requests; left = h.left };
     }
 
 itself : (w : World) → Asks w w
@@ -236,11 +239,12 @@ received_on now w bytes (Some (heard.Bytes n)) rest =
     let fuel = length u.stream.rest + 1 in
     same w u (hands fuel u now) refl refl (hands_on now TakesNone (Asks u) (carried now u) fuel u (itself u))
 received_on now w bytes (Some heard.Nothing) rest =
-    let u : World = record w { items = rest; idle = at_most 10000 (w.idle + 1) } in same w u (idles u now) refl refl (idles_on now TakesNone (Asks u) (carried now u) u (itself u))
+    let u : World = record w { items = rest; idle = at_most 10000 (w.idle + 1); counts = with_nothing w.counts } in
+    same w u (idles u now) refl refl (idles_on now TakesNone (Asks u) (carried now u) u refl (itself u))
 received_on now w bytes (Some heard.End) rest =
-    let u : World = record w { items = rest } in same w u (noted u now (c.Broke why.End)) refl refl (noted_on now TakesNone (Asks u) (carried now u) u (c.Broke why.End) refl (itself u))
+    let u : World = record w { items = rest; counts = with_end w.counts } in same w u (noted u now (c.Broke why.End)) refl refl (noted_on now TakesNone (Asks u) (carried now u) u (c.Broke why.End) refl (itself u))
 received_on now w bytes None rest =
-    let u : World = record w { items = rest } in same w u (noted u now (c.Broke why.Fault)) refl refl (noted_on now TakesNone (Asks u) (carried now u) u (c.Broke why.Fault) refl (itself u))
+    let u : World = failed (record w { items = rest }) in same w u (noted u now (c.Broke why.Fault)) refl refl (noted_on now TakesNone (Asks u) (carried now u) u (c.Broke why.Fault) refl (itself u))
 
 receives_on : (now : ℕ) (w : World) → IsAsking w → GoesOn w (receives w now)
 unfolding receives
@@ -318,7 +322,7 @@ opened_on now w true rest =
     let u : World = record w { items = rest; room = room_at rest; taken = w.taken ++ [] ∷ []; given = w.given ++ [] ∷ []; stream = fresh; idle = 0 } in
     same w u (entered u now c.Opened) refl refl (entered_on now TakesNone (Asks u) (carried now u) u c.Opened refl (itself u))
 opened_on now w false rest =
-    let u : World = record w { items = rest } in same w u (noted u now (c.Broke why.Fault)) refl refl (noted_on now TakesNone (Asks u) (carried now u) u (c.Broke why.Fault) refl (itself u))
+    let u : World = failed (record w { items = rest }) in same w u (noted u now (c.Broke why.Fault)) refl refl (noted_on now TakesNone (Asks u) (carried now u) u (c.Broke why.Fault) refl (itself u))
 
 opening_on : (now : ℕ) (w : World) → IsAsking w → GoesOn w (opening w now)
 unfolding opening

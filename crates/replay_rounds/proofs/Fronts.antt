@@ -4,6 +4,7 @@ use Rattle.std.specs.Prelude.{min, ◌==◌}
 use Rattle.std.proofs.lemmas.List.{append-nil, append_assoc, take-append-drop}
 use Rattle.mqtt_packet.specs.Steps.{fed_to}
 use Rattle.agent_link.specs.Clocks.{step_reading, after_reading}
+use Rattle.agent_link.specs.Counts.{with_end, with_nothing}
 use Rattle.agent_link.specs.Wires.{onto_last}
 use Rattle.agent_link.specs.declared.link.Heard.{Heard}
 use Rattle.agent_link.specs.declared.link.Heard.TheVariants as heard
@@ -16,7 +17,7 @@ use Rattle.agent_journal.specs.declared.entry.Why.TheVariants as why
 use Rattle.agent_table.specs.Readings.{at_most}
 use Rattle.agent_table.specs.Ties.{EachTied}
 use Rattle.replay_rounds.specs.World.{World}
-use Rattle.replay_rounds.specs.Entering.{entered}
+use Rattle.replay_rounds.specs.Entering.{failed}
 use Rattle.replay_rounds.specs.Receiving.{received_by, receives}
 use Rattle.replay_rounds.specs.Rounds.{fresh, opened_by, opening, round, has_ended, after, begun}
 use Rattle.replay_rounds.specs.Bound.{bound}
@@ -196,12 +197,14 @@ module _ (tape : List Item) where
   carried now =
       record {
         arrived = λ packet. tt;
-        broke = λ reason. tt;
+        rejected = λ reason bad. tt;
         entry_on = λ w cause found of e h. h;
+        failed_on = λ w h. h;
+        fault_on = λ w found e h. h;
         shut_on = λ w h. emptied_on w.items (closed w.items) w.given (sym (wires_closed w.items)) (none_closed w.items) h;
         wire_on = λ w bytes h. h;
         stream_on = λ w stream h. h;
-        idle_on = λ w idle h. h;
+        busy_on = λ w h. h;
       }
 
   received_on : (now : ℕ) (w : World) (bytes : List ℕ) (answer : Option Heard × List Item) → Leaves w.items bytes answer → Holds w → Holds (received_by w now bytes answer)
@@ -209,11 +212,11 @@ module _ (tape : List Item) where
       let v = record w { items = rest; given = onto_last w.given (take n bytes); stream = fed_to w.stream (take n bytes); idle = 0 } in
       hands_on now Any Holds (carried now) (length v.stream.rest + 1) v (given_on w.items rest w.given (take n bytes) leaves.wires_left leaves.bytes_left h)
   received_on now w bytes (Some heard.Nothing, rest) leaves h =
-      idles_on now Any Holds (carried now) (record w { items = rest; idle = at_most 10000 (w.idle + 1) }) (quiet_on w.items rest w.given leaves.wires_left leaves.bytes_left h)
+      idles_on now Any Holds (carried now) (record w { items = rest; idle = at_most 10000 (w.idle + 1); counts = with_nothing w.counts }) tt (quiet_on w.items rest w.given leaves.wires_left leaves.bytes_left h)
   received_on now w bytes (Some heard.End, rest) leaves h =
-      noted_on now Any Holds (carried now) (record w { items = rest }) (c.Broke why.End) tt (quiet_on w.items rest w.given leaves.wires_left leaves.bytes_left h)
+      noted_on now Any Holds (carried now) (record w { items = rest; counts = with_end w.counts }) (c.Broke why.End) tt (quiet_on w.items rest w.given leaves.wires_left leaves.bytes_left h)
   received_on now w bytes (None, rest) leaves h =
-      noted_on now Any Holds (carried now) (record w { items = rest }) (c.Broke why.Fault) tt (quiet_on w.items rest w.given leaves.wires_left leaves.bytes_left h)
+      noted_on now Any Holds (carried now) (failed (record w { items = rest })) (c.Broke why.Fault) tt (quiet_on w.items rest w.given leaves.wires_left leaves.bytes_left h)
 
   receives_on : (now : ℕ) (w : World) → Holds w → Holds (receives w now)
   unfolding receives
@@ -224,7 +227,7 @@ module _ (tape : List Item) where
       let v = record w { items = rest; room = room_at rest; taken = w.taken ++ [] ∷ []; given = w.given ++ [] ∷ []; stream = fresh; idle = 0 } in
       entered_on now Any Holds (carried now) v c.Opened tt (begun_on w.items rest w.given begins h)
   opened_on now w (false, rest) begins h =
-      noted_on now Any Holds (carried now) (record w { items = rest }) (c.Broke why.Fault) tt (emptied_on w.items rest w.given begins.0 begins.1 h)
+      noted_on now Any Holds (carried now) (failed (record w { items = rest })) (c.Broke why.Fault) tt (emptied_on w.items rest w.given begins.0 begins.1 h)
 
   opening_on : (now : ℕ) (w : World) → Holds w → Holds (opening w now)
   unfolding opening
@@ -233,7 +236,8 @@ module _ (tape : List Item) where
   walked : (now : ℕ) → IsWalked now Holds
   walked now =
       record {
-        enters = λ w cause h. entered_on now Any Holds (carried now) w cause tt h;
+        due_on = λ w cause e h. entered_on now Any Holds (carried now) w cause tt h;
+        submits_on = λ w request h. entered_on now Any Holds (carried now) w _ tt h;
         receives_on = receives_on now;
         opening_on = opening_on now;
         lines_on = λ w lines h. h;

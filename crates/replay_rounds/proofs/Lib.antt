@@ -24,6 +24,7 @@ pub mod Given
 pub mod Tied
 pub mod TiedRounds
 pub mod Times
+pub mod Counted
 pub mod TiedAll
 pub mod Histories
 pub mod Fronts

@@ -1,4 +1,4 @@
--- While the agent listens, each packet has a row, and so have bytes that are none.
+-- While the agent listens, each packet has a row, and so have bytes that are none. Only then a silent connection is broken.
 use Rattle.std.proofs.Common.{◌≡◌, ℕ, Bool, true, false, cond, List, [], ◌∷◌, ◌++◌, Option, Some, is_some, refl, ap, ◌∙◌}
 use Rattle.std.specs.Prelude.{not, ◌==◌, nat_lt, length}
 use Rattle.std.specs.List.{list_any}
@@ -12,15 +12,16 @@ use Rattle.agent_journal.specs.declared.effect.Effect.TheVariants as f
 use Rattle.agent_journal.specs.declared.setup.Setup.{Setup}
 use Rattle.agent_journal.specs.declared.setup.Phase.{Phase}
 use Rattle.agent_journal.specs.declared.setup.Phase.TheVariants.{Down, Opening, Up, Spilled, Off}
+use Rattle.agent_table.specs.Breaks.{is_none}
 use Rattle.agent_table.specs.Arrivals.{arrived_row, arrived_in, opening_row, connack_row, first_row, resumed_row, up_row, publish_row, message_row, puback_row, pubrec_row, pubcomp_row, suback_row, unsuback_row, awaited}
-use Rattle.agent_table.specs.Breaks.{bytes_row}
+use Rattle.agent_table.specs.Breaks.{bytes_row, idle_row, down}
 use Rattle.agent_table.specs.Deliveries.{is_among}
 use Rattle.agent_table.specs.Effects.{pass}
 use Rattle.agent_table.specs.Readings.{Readings}
 use Rattle.agent_table.specs.Rows.{Row, to, when, ends}
 use Rattle.agent_table.specs.Sizes.{Sizes}
 use Rattle.agent_table.specs.Ties.{listens}
-use Rattle.replay_rounds.proofs.Sends.{there}
+use Rattle.replay_rounds.proofs.Sends.{there, when_of}
 
 some_by : (b : Bool) (r q : Option Row) → is_some r ≡ true → is_some q ≡ true → is_some (cond b r q) ≡ true
 some_by true r q h k = h
@@ -114,3 +115,11 @@ module _ (s : Setup) (l : Sizes) (r : Readings) where
   bytes_away found Up e = there (λ row. listens row.phase ≡ false) (ends s r) found e refl
   bytes_away found Spilled e = absurd (cc e)
   bytes_away found Off e = absurd (cc e)
+
+  pub idle_away : (found : Row) (phase : Phase) → idle_row r phase ≡ Some found → (listens phase ≡ true) × (listens found.phase ≡ false)
+  unfolding idle_row
+  idle_away found Down e = absurd (cc e)
+  idle_away found Opening e = (refl, there (λ row. listens row.phase ≡ false) (down r) found e refl)
+  idle_away found Up e = (refl, there (λ row. listens row.phase ≡ false) (when (not (is_none r.pending)) (down r)) found e (when_of (λ row. listens row.phase ≡ false) (not (is_none r.pending)) (down r) refl))
+  idle_away found Spilled e = absurd (cc e)
+  idle_away found Off e = absurd (cc e)

@@ -13,7 +13,7 @@ use Rattle.agent_journal.specs.Wires.{sent_in}
 use Rattle.agent_table.specs.Histories.{phase_by, phase_of, readings}
 use Rattle.agent_table.specs.Rows.{Row}
 use Rattle.replay_rounds.specs.World.{World, phase_in, row_in, shut_in, settled}
-use Rattle.replay_rounds.specs.Entering.{entry, noted, noted_by, onto_wire, sends, entered, entered_by}
+use Rattle.replay_rounds.specs.Entering.{entry, noted, noted_by, failed, onto_wire, sends, entered, entered_by}
 use Rattle.replay_rounds.proofs.Kept.{IsKept}
 use Rattle.replay_rounds.proofs.Rows.{Within, row_fits, in_time, fault_leads, fault_phase}
 
@@ -94,7 +94,7 @@ sends_lands : (now : ℕ) (w : World) (bytes : List ℕ) → Lands w.past (phase
 sends_lands now w [] = inl (settled_past w (phase_in w), settled_phase w (phase_in w))
 sends_lands now w (b ∷ bytes) =
     let fits = fitting w.room (length (b ∷ bytes)) in
-    let part = onto_wire (record w { idle = 0 }) (take fits (b ∷ bytes)) in
+    let part = failed (onto_wire (record w { idle = 0 }) (take fits (b ∷ bytes))) in
     let whole = onto_wire (record w { idle = 0 }) (b ∷ bytes) in
     lands_by (nat_lt fits (length (b ∷ bytes))) w.past (phase_in w) (noted part now (c.Broke why.Fault)) (settled whole) (fault_lands now part (row_in part now (c.Broke why.Fault)) refl)
     (inl (settled_past whole (phase_in whole), settled_phase whole (phase_in whole)))

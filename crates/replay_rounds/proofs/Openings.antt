@@ -13,7 +13,7 @@ use Rattle.agent_table.specs.Readings.{at_most}
 use Rattle.agent_table.specs.Rows.{Row}
 use Rattle.agent_table.specs.Sessions.{ping_of}
 use Rattle.replay_rounds.specs.World.{World, phase_in, row_in}
-use Rattle.replay_rounds.specs.Entering.{noted, entered}
+use Rattle.replay_rounds.specs.Entering.{noted, failed, entered}
 use Rattle.replay_rounds.specs.Rounds.{fresh, opened_by, opening}
 use Rattle.replay_rounds.specs.Bound.{weights, phase_weight}
 use Rattle.replay_rounds.proofs.Dues.{NoneDue}
@@ -43,9 +43,9 @@ may_fail now w h due down =
 down_is : (w : World) → phase_in w ≡ Down → rounds_in w ≡ 2 + (w.setup.reopen + 1 - breaks_of w.past)
 down_is w e = ap (phase_weight w.setup.reopen (breaks_of w.past) (ping_of w.past)) e
 
-failed_fewer : (now : ℕ) (w : World) (rest : List Item) → IsTimely now w → NoneDue now w → phase_in w ≡ Down → weights rest ≤ weights w.items → Fewer w (noted (record w { items = rest }) now (c.Broke why.Fault))
+failed_fewer : (now : ℕ) (w : World) (rest : List Item) → IsTimely now w → NoneDue now w → phase_in w ≡ Down → weights rest ≤ weights w.items → Fewer w (noted (failed (record w { items = rest })) now (c.Broke why.Fault))
 failed_fewer now w rest h due down less =
-    let u = record w { items = rest } in
+    let u = failed (record w { items = rest }) in
     let v = noted u now (c.Broke why.Fault) in
     let few = may_fail now w h due down in
     let found : Row = record { effects = []; phase = Down } in

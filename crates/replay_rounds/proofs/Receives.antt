@@ -3,6 +3,7 @@ use Rattle.std.proofs.Common.{◌≡◌, ◌⊎◌, ℕ, ◌+◌, ◌≤◌, Lis
 use Rattle.mqtt_packet.specs.Steps.{fed_to}
 use Rattle.agent_link.specs.declared.link.Heard.{Heard}
 use Rattle.agent_link.specs.declared.link.Heard.TheVariants as heard
+use Rattle.agent_link.specs.Counts.{with_end, with_nothing}
 use Rattle.agent_link.specs.Wires.{onto_last}
 use Rattle.broker_tape.specs.declared.tape.Item.{Item}
 use Rattle.broker_tape.specs.Playing.{hears, present}
@@ -14,7 +15,7 @@ use Rattle.agent_table.specs.Histories.{readings}
 use Rattle.agent_table.specs.Readings.{at_most}
 use Rattle.agent_table.specs.Rows.{Row}
 use Rattle.replay_rounds.specs.World.{World, phase_in, row_in}
-use Rattle.replay_rounds.specs.Entering.{noted}
+use Rattle.replay_rounds.specs.Entering.{noted, failed}
 use Rattle.replay_rounds.specs.Receiving.{hands, idles, received_by, receives}
 use Rattle.replay_rounds.specs.Bound.{weights}
 use Rattle.replay_rounds.proofs.Kept.{Any, hands_on, idles_on, noted_on}
@@ -39,9 +40,9 @@ end_there now w h (inl opening) = end_opening w.setup w.sizes (readings w.setup 
 end_there now w h (inr up) = end_up w.setup w.sizes (readings w.setup w.sizes w.past) now h.time up
 
 -- a tape whose connection is at its end
-ended_fewer : (now : ℕ) (w : World) (rest : List Item) → IsTimely now w → IsListening w → weights rest ≤ weights w.items → Fewer w (noted (record w { items = rest }) now (c.Broke why.End))
+ended_fewer : (now : ℕ) (w : World) (rest : List Item) → IsTimely now w → IsListening w → weights rest ≤ weights w.items → Fewer w (noted (record w { items = rest; counts = with_end w.counts }) now (c.Broke why.End))
 ended_fewer now w rest h listening less =
-    let u = record w { items = rest } in
+    let u = record w { items = rest; counts = with_end w.counts } in
     let v = noted u now (c.Broke why.End) in
     let follows = noted_on now Any (Tamed u) (tamed now u) u (c.Broke why.End) tt (itself u) in
     let light = down_weighs v (noted_phase now u (c.Broke why.End) (lost w) (end_there now w h listening)) in
@@ -57,12 +58,13 @@ received_fewer now w bytes (Some (heard.Bytes n)) rest h listening (inl less) =
     by_item w u (hands fuel u now) refl refl refl refl less (hands_on now Any (Tamed u) (tamed now u) fuel u (itself u))
 received_fewer now w bytes (Some (heard.Bytes n)) rest h listening (inr ended) = absurd (cc ended.0)
 received_fewer now w bytes (Some heard.Nothing) rest h listening (inl less) =
-    let u = record w { items = rest; idle = at_most 10000 (w.idle + 1) } in by_item w u (idles u now) refl refl refl refl less (idles_on now Any (Tamed u) (tamed now u) u (itself u))
+    let u = record w { items = rest; idle = at_most 10000 (w.idle + 1); counts = with_nothing w.counts } in
+    by_item w u (idles u now) refl refl refl refl less (idles_on now Any (Tamed u) (tamed now u) u tt (itself u))
 received_fewer now w bytes (Some heard.Nothing) rest h listening (inr ended) = absurd (cc ended.0)
 received_fewer now w bytes (Some heard.End) rest h listening (inl less) = ended_fewer now w rest h listening (omega (arith, less))
 received_fewer now w bytes (Some heard.End) rest h listening (inr ended) = ended_fewer now w rest h listening ended.1
 received_fewer now w bytes None rest h listening (inl less) =
-    let u = record w { items = rest } in by_item w u (noted u now (c.Broke why.Fault)) refl refl refl refl less (noted_on now Any (Tamed u) (tamed now u) u (c.Broke why.Fault) tt (itself u))
+    let u = failed (record w { items = rest }) in by_item w u (noted u now (c.Broke why.Fault)) refl refl refl refl less (noted_on now Any (Tamed u) (tamed now u) u (c.Broke why.Fault) tt (itself u))
 received_fewer now w bytes None rest h listening (inr ended) = absurd (cc ended.0)
 
 pub receives_fewer : (now : ℕ) (w : World) → IsTimely now w → IsListening w → Fewer w (receives w now)

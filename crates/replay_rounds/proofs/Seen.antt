@@ -24,7 +24,7 @@ use Rattle.agent_table.specs.Rows.{Row}
 use Rattle.agent_table.specs.Sends.{has_send, is_some_packet}
 use Rattle.agent_table.specs.Sizes.{Sizes}
 use Rattle.replay_rounds.specs.World.{World, phase_in, row_in, shut_in, settled}
-use Rattle.replay_rounds.specs.Entering.{entry, noted, noted_by, onto_wire, sends_some, entered, entered_by}
+use Rattle.replay_rounds.specs.Entering.{entry, noted, noted_by, failed, onto_wire, sends_some, entered, entered_by}
 use Rattle.replay_rounds.specs.Entering as entering
 use Rattle.replay_rounds.proofs.Moments.{with_row, phase_row}
 use Rattle.replay_rounds.proofs.Rows.{timely, in_time}
@@ -127,9 +127,9 @@ module _ (now : ℕ) (w : World) (cause : Cause) (found : Row) (e : row_in w now
     none_there b bytes some none = cc (sym (faults_behind b bytes some) ∙ ap is_some none)
 
     some_sent : (less : Bool) (fits b : ℕ) (bytes : List ℕ) → sent_in found.effects ≡ b ∷ bytes → nat_lt fits (length (b ∷ bytes)) ≡ less
-        → P (seen (cond less (noted (onto_wire (record behind { idle = 0 }) (take fits (b ∷ bytes))) now (c.Broke why.Fault)) (settled (onto_wire (record behind { idle = 0 }) (b ∷ bytes)))))
+        → P (seen (cond less (noted (failed (onto_wire (record behind { idle = 0 }) (take fits (b ∷ bytes)))) now (c.Broke why.Fault)) (settled (onto_wire (record behind { idle = 0 }) (b ∷ bytes)))))
     some_sent true fits b bytes some less =
-        noted_seen P now (onto_wire (record behind { idle = 0 }) (take fits (b ∷ bytes))) (c.Broke why.Fault) (λ none. absurd (none_there b bytes some none))
+        noted_seen P now (failed (onto_wire (record behind { idle = 0 }) (take fits (b ∷ bytes)))) (c.Broke why.Fault) (λ none. absurd (none_there b bytes some none))
         (λ second is.
         subst (λ bs. P (with_entry (with_bytes (with_entry (seen w) now cause found) (take fits bs)) now (c.Broke why.Fault) second)) some
         (part fits second (subst (λ bs. fits < length bs) (sym some) (ltb-true fits (length (b ∷ bytes)) less)) is))

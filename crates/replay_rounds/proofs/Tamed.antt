@@ -26,12 +26,14 @@ pub tamed : (now : ℕ) (w : World) → IsCarried now Any (Tamed w)
 tamed now w =
     record {
       arrived = λ packet. tt;
-      broke = λ reason. tt;
+      rejected = λ reason bad. tt;
       entry_on = λ v cause found of e h. let less = leave_less (leaves_by 0 cause) (has_left 0 v.past) in record { setup = h.setup; clock = h.clock; lines = h.lines; weight = h.weight; leave = omega (arith, less, h.leave) };
+      failed_on = λ v h. record { setup = h.setup; clock = h.clock; lines = h.lines; weight = h.weight; leave = h.leave };
+      fault_on = λ v found e h. record { setup = h.setup; clock = h.clock; lines = h.lines; weight = h.weight; leave = h.leave };
       shut_on = λ v h. let less = closed_less v.items in record { setup = h.setup; clock = h.clock; lines = h.lines; weight = omega (arith, less, h.weight); leave = h.leave };
       wire_on = λ v bytes h. record { setup = h.setup; clock = h.clock; lines = h.lines; weight = h.weight; leave = h.leave };
       stream_on = λ v stream h. record { setup = h.setup; clock = h.clock; lines = h.lines; weight = h.weight; leave = h.leave };
-      idle_on = λ v idle h. record { setup = h.setup; clock = h.clock; lines = h.lines; weight = h.weight; leave = h.leave };
+      busy_on = λ v h. record { setup = h.setup; clock = h.clock; lines = h.lines; weight = h.weight; leave = h.leave };
     }
 
 pub itself : (w : World) → Tamed w w

@@ -53,12 +53,14 @@ module _ (now : ℕ) where
   gives_on =
       record {
         arrived = λ packet. tt;
-        broke = λ reason. tt;
+        rejected = λ reason bad. tt;
         entry_on = λ w cause found of e h. h;
+        failed_on = λ w h. h;
+        fault_on = λ w found e h. h;
         shut_on = λ w h. closed_gives w.items h;
         wire_on = λ w bytes h. h;
         stream_on = λ w stream h. h;
-        idle_on = λ w idle h. h;
+        busy_on = λ w h. h;
       }
 
   -- ---- Plain entries

@@ -1,16 +1,18 @@
 -- A replay's journal is tied to its link and its clock.
-use Rattle.std.proofs.Common.{◌≡◌, ℕ, suc, List, refl, subst}
+use Rattle.std.proofs.Common.{◌≡◌, ℕ, suc, List, refl, subst, arith}
 use Rattle.agent_link.specs.Clocks.{step_readings}
+use Rattle.agent_link.specs.Counts.{uncounted}
 use Rattle.broker_tape.specs.declared.tape.Item.{Item}
 use Rattle.agent_journal.specs.declared.script.Line.{Line}
 use Rattle.agent_journal.specs.declared.setup.Setup.{Setup}
 use Rattle.agent_journal.specs.Wires.{connections, Wired, AreReadings}
 use Rattle.agent_table.specs.Sizes.{Sizes}
-use Rattle.agent_table.specs.Ties.{stages, Heard, IsTied}
+use Rattle.agent_table.specs.Ties.{stages, Heard, IsCounted, IsTied}
 use Rattle.replay_rounds.specs.World.{World}
 use Rattle.broker_tape.specs.Given.{GivesBytes}
 use Rattle.replay_rounds.specs.Rounds.{begun}
 use Rattle.replay_rounds.specs.Bound.{bound, finished}
+use Rattle.replay_rounds.proofs.Counted.{counted_after}
 use Rattle.replay_rounds.proofs.Ends.{begun_steady}
 use Rattle.replay_rounds.proofs.Heard.{LastHeard, IsHandedIn, is_heard}
 use Rattle.replay_rounds.proofs.Seen.{seen, phase_seen}
@@ -21,21 +23,24 @@ use Rattle.replay_rounds.proofs.Times.{timed_after}
 use Rattle.replay_rounds.proofs.Wired.{LastWired, is_wired}
 use Rattle.replay_rounds.proofs.Wires.{each_tied}
 
-tied_of : (w : World) (readings : List ℕ) → Ties (seen w) → AreReadings readings w.past → IsTied w.setup w.sizes w.past w.taken w.given readings
-tied_of w readings h times =
+tied_of : (w : World) (readings : List ℕ) → Ties (seen w) → AreReadings readings w.past → IsCounted w.past uncounted w.counts
+    → IsTied w.setup w.sizes w.past w.taken w.given readings uncounted w.counts
+tied_of w readings h times counts =
     record {
       wired = each_tied Wired (LastWired (phase_seen (seen w))) (is_wired (phase_seen (seen w))) (connections w.past) w.taken h.wired;
       heard = each_tied Heard (LastHeard IsHandedIn (phase_seen (seen w)) w.stream) (is_heard (phase_seen (seen w)) w.stream) (stages w.setup w.sizes w.past) w.given h.heard;
       times = times;
+      counts = counts;
     }
 
 pub tied_finished : (setup : Setup) (sizes : Sizes) (tick : ℕ) (lines : List Line) (items : List Item) → setup.tasks ≡ 1 → GivesBytes items
-    → (let w = finished (begun setup sizes tick lines items) in IsTied setup sizes w.past w.taken w.given (step_readings tick (suc w.clock.calls)))
+    → (let w = finished (begun setup sizes tick lines items) in IsTied setup sizes w.past w.taken w.given (step_readings tick (suc w.clock.calls)) uncounted w.counts)
 tied_finished setup sizes tick lines items one gives =
     let start = begun setup sizes tick lines items in
     let w = finished start in
     let readings = step_readings tick (suc w.clock.calls) in
     let steady = begun_steady setup sizes tick lines items one in
     let same = after_of (bound start) setup sizes start (refl, refl) in
-    let tied = tied_of w readings (ties_after (bound start) start steady (record { wired = tt; heard = tt }) gives) (timed_after (bound start) tick start steady refl tt) in
-    subst (λ s. IsTied s sizes w.past w.taken w.given readings) same.0 (subst (λ l. IsTied w.setup l w.past w.taken w.given readings) same.1 tied)
+    let counted = counted_after (bound start) start (record { faults = omega arith; ends = omega arith; nothings = omega arith }) in
+    let tied = tied_of w readings (ties_after (bound start) start steady (record { wired = tt; heard = tt }) gives) (timed_after (bound start) tick start steady refl tt) counted in
+    subst (λ s. IsTied s sizes w.past w.taken w.given readings uncounted w.counts) same.0 (subst (λ l. IsTied w.setup l w.past w.taken w.given readings uncounted w.counts) same.1 tied)

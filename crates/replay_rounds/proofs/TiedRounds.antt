@@ -9,6 +9,7 @@ use Rattle.mqtt_packet.specs.Stream.{AreBytes}
 use Rattle.agent_link.specs.declared.link.Heard.{Heard}
 use Rattle.agent_link.specs.declared.link.Heard.TheVariants as heard
 use Rattle.agent_link.specs.Clocks.{after_reading}
+use Rattle.agent_link.specs.Counts.{with_end, with_nothing}
 use Rattle.agent_link.specs.Wires.{onto_last}
 use Rattle.broker_tape.specs.declared.tape.Item.{Item}
 use Rattle.broker_tape.specs.Playing.{hears, present, opens, room_at}
@@ -33,7 +34,7 @@ use Rattle.agent_table.specs.Rows.{Row}
 use Rattle.agent_table.specs.Sizes.{Sizes}
 use Rattle.agent_table.specs.Ties.{Moment, moment, stages, listens}
 use Rattle.replay_rounds.specs.World.{World, phase_in, row_in}
-use Rattle.replay_rounds.specs.Entering.{entered, noted}
+use Rattle.replay_rounds.specs.Entering.{entered, noted, failed}
 use Rattle.broker_tape.specs.Given.{GivesBytes}
 use Rattle.replay_rounds.specs.Lines.{told_up, told_off, passes, submits, is_none_open, takes_step, takes_by, takes, ends_step, ends_by, ends}
 use Rattle.replay_rounds.specs.Receiving.{handed, hands, idles, received_by, receives}
@@ -120,9 +121,9 @@ module _ (now : ℕ) where
         gives = hands_on now Any (λ v. GivesBytes v.items) (gives_on now) (length u.stream.rest + 1) u gives;
       }
   received_holds w bytes (Some heard.Nothing, rest) on time is gives h =
-      idles_holds (record w { items = rest; idle = at_most 10000 (w.idle + 1) }) (record { ties = h.ties; gives = gives })
-  received_holds w bytes (Some heard.End, rest) on time is gives h = noted_holds now (record w { items = rest }) why.End refl (record { ties = h.ties; gives = gives })
-  received_holds w bytes (None, rest) on time is gives h = noted_holds now (record w { items = rest }) why.Fault refl (record { ties = h.ties; gives = gives })
+      idles_holds (record w { items = rest; idle = at_most 10000 (w.idle + 1); counts = with_nothing w.counts }) (record { ties = h.ties; gives = gives })
+  received_holds w bytes (Some heard.End, rest) on time is gives h = noted_holds now (record w { items = rest; counts = with_end w.counts }) why.End refl (record { ties = h.ties; gives = gives })
+  received_holds w bytes (None, rest) on time is gives h = noted_holds now (failed (record w { items = rest })) why.Fault refl (record { ties = h.ties; gives = gives })
 
   receives_holds : (w : World) → listens (phase_in w) ≡ true → last_time_of w.past ≤ now → Holds w → Holds (receives w now)
   unfolding receives
@@ -208,7 +209,7 @@ module _ (now : ℕ) where
     opened_holds (true, rest) gives holds =
         let u = record w { items = rest; room = room_at rest; taken = w.taken ++ [] ∷ []; given = w.given ++ [] ∷ []; stream = fresh; idle = 0 } in
         record { ties = opened_ties rest holds.ties; gives = entered_on now Any (λ v. GivesBytes v.items) (gives_on now) u c.Opened tt gives }
-    opened_holds (false, rest) gives holds = noted_holds now (record w { items = rest }) why.Fault refl (record { ties = holds.ties; gives = gives })
+    opened_holds (false, rest) gives holds = noted_holds now (failed (record w { items = rest })) why.Fault refl (record { ties = holds.ties; gives = gives })
 
     opening_holds : Holds w → Holds (opening w now)
     unfolding opening

@@ -13,10 +13,7 @@ use Rattle.replay_rounds.specs.World.{World}
 
 abbrev pub IsValidStep : Step → Type 0
 IsValidStep (steps.Do request) = (is_valid request ≡ true) × (is_leave request ≡ false)
-IsValidStep (steps.Shadow op name payload) = Unit {0}
-IsValidStep (steps.Jobs op job payload) = Unit {0}
-IsValidStep steps.Wait = Unit {0}
-IsValidStep (steps.Listen count) = Unit {0}
+IsValidStep _ = Unit {0}
 
 -- A line of the one task, whose request is valid. No line is a Leave.
 pub record IsValidLine (line : Line) : Type 0 where

@@ -11,13 +11,9 @@ use Rattle.replay_rounds.specs.Rounds.{after}
 
 -- how many receives an item takes at most
 abbrev pub weight : Item → ℕ
-weight items.Open = 1
-weight items.Refuse = 1
-weight (items.Room count) = 1
 weight (items.Hear bytes) = 1 + length bytes
 weight (items.Quiet count) = 1 + count
-weight items.End = 1
-weight items.Fail = 1
+weight _ = 1
 
 abbrev pub weights : List Item → ℕ
 weights [] = 0

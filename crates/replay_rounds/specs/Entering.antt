@@ -1,5 +1,6 @@
 -- Entries of a replay: what the table gives, with its packets on the wire.
 use Rattle.std.specs.Prelude.{ℕ, List, [], ◌∷◌, length, take, Option, Some, None, if◌then◌else◌, nat_lt}
+use Rattle.agent_link.specs.Counts.{with_fault}
 use Rattle.agent_link.specs.Wires.{onto_last}
 use Rattle.broker_tape.specs.Playing.{fitting, room_behind}
 use Rattle.agent_journal.specs.declared.entry.Cause.{Cause}
@@ -25,9 +26,13 @@ noted w at cause = noted_by w at cause (row_in w at cause)
 abbrev pub onto_wire : World → List ℕ → World
 onto_wire w bytes = record w { taken = onto_last w.taken bytes; room = room_behind w.room (length bytes) }
 
+-- A call of the link failed.
+abbrev pub failed : World → World
+failed w = record w { counts = with_fault w.counts }
+
 -- It takes as many of them as it has room for. Where that isn't all, the link fails, in the same round.
 abbrev pub sends_some : World → ℕ → List ℕ → ℕ → World
-sends_some w at bytes fits = if nat_lt fits (length bytes) then noted (onto_wire w (take fits bytes)) at (c.Broke why.Fault) else settled (onto_wire w bytes)
+sends_some w at bytes fits = if nat_lt fits (length bytes) then noted (failed (onto_wire w (take fits bytes))) at (c.Broke why.Fault) else settled (onto_wire w bytes)
 
 -- Where something is sent, the count of receives that heard nothing begins anew.
 abbrev pub sends : World → ℕ → List ℕ → World

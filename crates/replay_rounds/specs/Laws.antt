@@ -2,6 +2,7 @@
 use Rattle.std.specs.Prelude.{◌≡◌, ℕ, true, Some, List, [], ◌∷◌, ◌++◌}
 use Rattle.std.specs.List.{AllByRecursion}
 use Rattle.agent_link.specs.Clocks.{step_readings}
+use Rattle.agent_link.specs.Counts.{uncounted}
 use Rattle.broker_tape.specs.declared.tape.Item.{Item}
 use Rattle.agent_journal.specs.declared.request.Request.TheVariants as requests
 use Rattle.agent_journal.specs.declared.ending.Ending.{Ending}
@@ -37,13 +38,13 @@ ReplaysTakeAll =
     → requests_of 0 (finished (begun setup sizes tick lines items)).past ≡ asked_in 0 lines ++ requests.Leave ∷ []
 
 -- What a replay has come to: its journal is one legal history of the agent, in which what the script asks stands once and in
--- its order. It is tied to the link that the tape plays and to a clock that goes on by ticks.
+-- its order. It is tied to the link that the tape plays, with what that counted, and to a clock that goes on by ticks.
 pub record IsTiedHistory (setup : Setup) (sizes : Sizes) (tick : ℕ) (script : Script) (w : World) : Type 0 where
   pub history : IsHistoryOf setup sizes (asked script) w.past
   pub ending : Ending
   pub ended : ending_of setup sizes w.past ≡ Some ending
   pub rounds : ℕ
-  pub tied : IsTied setup sizes w.past w.taken w.given (step_readings tick rounds)
+  pub tied : IsTied setup sizes w.past w.taken w.given (step_readings tick rounds) uncounted w.counts
 
 -- A replay of one task, whose tape gives bytes, is such a history.
 abbrev pub ReplaysAreHistories : Type 0

@@ -18,10 +18,8 @@ use Rattle.replay_rounds.specs.Receiving.{receives}
 
 -- whether the task was told that the agent has ended
 abbrev pub is_closed : Effect → Bool
-is_closed (f.Send packet) = false
-is_closed (f.Done task seq outcome) = false
-is_closed (f.Pass task message) = false
 is_closed (f.Closed task) = task == 0
+is_closed _ = false
 
 abbrev pub closed_of : List Entry → Bool
 closed_of [] = false
@@ -58,10 +56,7 @@ is_none_open w = length (pending_of w.past) == 0
 -- and takes Leave where nothing is.
 abbrev pub takes_step : World → ℕ → List Line → Step → World
 takes_step w at lines (steps.Do request) = submits (record w { lines = lines }) at request
-takes_step w at lines (steps.Shadow op name payload) = receives w at
-takes_step w at lines (steps.Jobs op job payload) = receives w at
-takes_step w at lines steps.Wait = receives w at
-takes_step w at lines (steps.Listen count) = receives w at
+takes_step w at lines _ = receives w at
 
 abbrev pub takes_by : World → ℕ → List Line → World
 takes_by w at [] = if is_none_open w then submits w at requests.Leave else receives w at
@@ -83,10 +78,7 @@ told_off = record { settled = true; messages = 0; closed = true }
 
 abbrev pub ends_step : World → ℕ → List Line → Step → World
 ends_step w at lines (steps.Do request) = submits (record w { lines = lines }) at request
-ends_step w at lines (steps.Shadow op name payload) = record w { lines = lines }
-ends_step w at lines (steps.Jobs op job payload) = record w { lines = lines }
-ends_step w at lines steps.Wait = record w { lines = lines }
-ends_step w at lines (steps.Listen count) = record w { lines = lines }
+ends_step w at lines _ = record w { lines = lines }
 
 abbrev pub ends_by : World → ℕ → List Line → World
 ends_by w at [] = submits w at requests.Leave

@@ -6,6 +6,7 @@ use Rattle.mqtt_packet.specs.Splitting.{Kept}
 use Rattle.mqtt_packet.specs.Steps.{next_of, fed_to}
 use Rattle.agent_link.specs.declared.link.Heard.{Heard}
 use Rattle.agent_link.specs.declared.link.Heard.TheVariants as heard
+use Rattle.agent_link.specs.Counts.{with_end, with_nothing}
 use Rattle.agent_link.specs.Wires.{onto_last}
 use Rattle.broker_tape.specs.declared.tape.Item.{Item}
 use Rattle.broker_tape.specs.Playing.{hears, present}
@@ -14,7 +15,7 @@ use Rattle.agent_journal.specs.declared.entry.Why.TheVariants as why
 use Rattle.agent_table.specs.Readings.{at_most}
 use Rattle.agent_table.specs.Ties.{listens}
 use Rattle.replay_rounds.specs.World.{World, phase_in}
-use Rattle.replay_rounds.specs.Entering.{entered, noted}
+use Rattle.replay_rounds.specs.Entering.{entered, noted, failed}
 
 -- A whole packet is handed in, and then those behind it. What isn't one breaks the connection.
 abbrev pub handed : World → ℕ → (World → World) → Next × Kept → World
@@ -40,9 +41,9 @@ idles w at = if nat_le 10000 w.idle then noted w at (c.Broke why.Idle) else w
 abbrev pub received_by : World → ℕ → List ℕ → Option Heard × List Item → World
 received_by w at bytes (Some (heard.Bytes n), rest) =
     hands_all (record w { items = rest; given = onto_last w.given (take n bytes); stream = fed_to w.stream (take n bytes); idle = 0 }) at
-received_by w at bytes (Some heard.Nothing, rest) = idles (record w { items = rest; idle = at_most 10000 (w.idle + 1) }) at
-received_by w at bytes (Some heard.End, rest) = noted (record w { items = rest }) at (c.Broke why.End)
-received_by w at bytes (None, rest) = noted (record w { items = rest }) at (c.Broke why.Fault)
+received_by w at bytes (Some heard.Nothing, rest) = idles (record w { items = rest; idle = at_most 10000 (w.idle + 1); counts = with_nothing w.counts }) at
+received_by w at bytes (Some heard.End, rest) = noted (record w { items = rest; counts = with_end w.counts }) at (c.Broke why.End)
+received_by w at bytes (None, rest) = noted (failed (record w { items = rest })) at (c.Broke why.Fault)
 
 -- a receive into 4,096 bytes
 unfoldable pub receives : World → ℕ → World

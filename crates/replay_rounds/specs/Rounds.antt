@@ -2,6 +2,7 @@
 use Rattle.std.specs.Prelude.{ℕ, zero, suc, Bool, true, false, ◌&&◌, List, [], ◌∷◌, ◌++◌, Option, Some, None, if◌then◌else◌}
 use Rattle.mqtt_packet.specs.Splitting.{Kept}
 use Rattle.agent_link.specs.Clocks.{step_reading, after_reading}
+use Rattle.agent_link.specs.Counts.{uncounted}
 use Rattle.broker_tape.specs.declared.tape.Item.{Item}
 use Rattle.broker_tape.specs.Playing.{opens, room_at}
 use Rattle.agent_journal.specs.declared.entry.Cause.{Cause}
@@ -16,7 +17,7 @@ use Rattle.agent_journal.specs.Readings.{has_left}
 use Rattle.agent_table.specs.Histories.{due_by, readings}
 use Rattle.agent_table.specs.Sizes.{Sizes}
 use Rattle.replay_rounds.specs.World.{World, phase_in}
-use Rattle.replay_rounds.specs.Entering.{entered, noted}
+use Rattle.replay_rounds.specs.Entering.{entered, noted, failed}
 use Rattle.replay_rounds.specs.Receiving.{receives}
 use Rattle.replay_rounds.specs.Lines.{takes, ends}
 
@@ -27,7 +28,7 @@ fresh = record { rest = []; at = 0; verdict = None }
 abbrev pub opened_by : World → ℕ → Bool × List Item → World
 opened_by w at (true, rest) =
     entered (record w { items = rest; room = room_at rest; taken = w.taken ++ [] ∷ []; given = w.given ++ [] ∷ []; stream = fresh; idle = 0 }) at c.Opened
-opened_by w at (false, rest) = noted (record w { items = rest }) at (c.Broke why.Fault)
+opened_by w at (false, rest) = noted (failed (record w { items = rest })) at (c.Broke why.Fault)
 
 -- In Down the tape's next connection is opened.
 unfoldable pub opening : World → ℕ → World
@@ -77,4 +78,5 @@ begun setup sizes tick lines items =
       given = [];
       stream = fresh;
       idle = 0;
+      counts = uncounted;
     }

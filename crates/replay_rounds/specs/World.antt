@@ -2,6 +2,7 @@
 use Rattle.std.specs.Prelude.{ℕ, List, Option, Some}
 use Rattle.mqtt_packet.specs.Splitting.{Kept}
 use Rattle.agent_link.specs.Clocks.{Stepping}
+use Rattle.agent_link.specs.Counts.{LinkCounts}
 use Rattle.broker_tape.specs.declared.tape.Item.{Item}
 use Rattle.broker_tape.specs.Playing.{closed}
 use Rattle.agent_journal.specs.declared.entry.Cause.{Cause}
@@ -34,6 +35,8 @@ pub record World : Type 0 where
   pub stream : Kept
   -- how often in a row nothing was heard on it, at most 10,000
   pub idle : ℕ
+  -- what the link has counted: calls that failed, ends, and receives that heard nothing
+  pub counts : LinkCounts
 
 abbrev pub phase_in : World → Phase
 phase_in w = phase_of w.setup w.sizes w.past

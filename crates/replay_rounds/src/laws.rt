@@ -23,7 +23,8 @@ pub fn replays_take_all()
 /// A replay of one task is one legal history of the agent, in which what the script asks stands once and in its order, each
 /// command has exactly one completion, and each good outcome is earned. It is tied to its link and clock: over all
 /// connections, what was sent are the journal's packets, or a front of them where that connection broke, and what came are
-/// the packets that arrived.
+/// the packets that arrived. The link counted a fault for each break that a fault caused, an end for each that an end caused,
+/// and ten thousand receives that heard nothing for each that silence caused.
 #[tactic(auto, using(crate::proofs::Histories::replays_are_histories))]
 pub fn replays_are_histories()
     ensures { ReplaysAreHistories }

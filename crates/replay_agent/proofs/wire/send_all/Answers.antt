@@ -21,4 +21,5 @@ pieces-preserved c =
       room = c.in-Ok.ensures.room ∙ ap (λ room. room_behind room count) before.room ∙ room_more link.room sent count;
       given = unsome c.in-Ok.ensures.given ∙ before.given;
       left = c.in-Ok.ensures.left ∙ before.left;
+      counted = c.in-Ok.ensures.uncounted ∙ before.counted;
     }
