@@ -10,21 +10,20 @@ use Rattle.broker_tape.proofs.ReadTapes.{read_tape_gives}
 use Rattle.agent_journal.specs.declared.script.Line.{Line}
 use Rattle.agent_journal.specs.declared.script.Script.{Script}
 use Rattle.agent_script.specs.Scripts.{script_of}
+use Rattle.command_answers.specs.Answers.{Answers}
 use Rattle.command_words.specs.Commands.{words_of}
 use Rattle.command_words.specs.declared.words.RunWords.{RunWords}
 use Rattle.command_words.specs.declared.words.Words.{Words}
 use Rattle.command_words.specs.declared.words.Words.TheVariants.{Replay}
 use Rattle.replay_agent.proofs.ReadLines.{read_script_valid}
 use Rattle.replay_rounds.specs.Asked.{IsValidLine}
-use Rattle.replay_run.specs.Answers.{Answers}
 use Rattle.replay_run.proofs.Headline.{prints_history}
 use Rattle.thing_script.specs.Plain.{IsShortLine}
 use Rattle.thing_script.specs.Topics.{script_with, of_tasks, lines_with}
 use Rattle.thing_script.proofs.Lines.{are_valid}
 use Rattle.thing_script.proofs.Short.{read_script_short}
-use Rattle.agent_main.specs.Answers.{source_answer, script_answer, named_answer, tape_answer, first_said, bad_line, sizes_in, too_long}
+use Rattle.agent_main.specs.Answers.{IsNotBuilt, source_answer, script_answer, named_answer, tape_answer, first_said, bad_line, sizes_in, too_long}
 use Rattle.agent_main.specs.Headline.{HasRun, PrintsReplay}
-use Rattle.agent_main.proofs.Told.{IsOther}
 
 -- whoever ran didn't answer 2
 not_two : (status : ℕ) (old new : Option (List ℕ)) (text : List ℕ) → HasRun status → Answers status old new (record { text = text; status = 2 }) → ⊥
@@ -113,10 +112,10 @@ replay_kept (Some text) command words status old new is told =
     subst (λ (w : RunWords). PrintsReplay w text status old new) same (by_source words text status old new ran (told ran.had_source))
 
 -- of another command
-other_is : (command : Words) (words : RunWords) → IsOther command → command ≡ Replay words → ⊥
-other_is command words h e = subst IsOther e h
+other_is : (command : Words) (words : RunWords) → IsNotBuilt command → command ≡ Replay words → ⊥
+other_is command words h e = subst IsNotBuilt e h
 
-pub other_kept : (a : Option (List ℕ)) (command : Words) (status : ℕ) (old new : Option (List ℕ)) → IsOther command → IfSome a (Keeps command status old new)
+pub other_kept : (a : Option (List ℕ)) (command : Words) (status : ℕ) (old new : Option (List ℕ)) → IsNotBuilt command → IfSome a (Keeps command status old new)
 other_kept None command status old new other = tt
 other_kept (Some text) command status old new other = λ ran words e. absurd (other_is command words other e)
 

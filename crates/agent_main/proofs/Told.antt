@@ -9,11 +9,11 @@ use Rattle.plain_text.specs.Lines.{lines_of}
 use Rattle.broker_tape.specs.declared.tape.Item.{Item}
 use Rattle.agent_journal.specs.declared.script.Script.{Script}
 use Rattle.agent_script.specs.Scripts.{script_of}
+use Rattle.command_answers.specs.Answers.{Answers}
 use Rattle.command_words.specs.declared.words.RunWords.{RunWords}
 use Rattle.command_words.specs.declared.words.Words.{Words}
 use Rattle.command_words.specs.declared.words.Words.TheVariants.{Replay, Share, Fetch, Broker, World}
-use Rattle.replay_run.specs.Answers.{Answers}
-use Rattle.agent_main.specs.Answers.{source_answer, script_answer, named_answer, tape_answer, first_said, bad_line, too_long, no_reading, not_built, words_answer}
+use Rattle.agent_main.specs.Answers.{source_answer, script_answer, named_answer, tape_answer, first_said, bad_line, too_long, no_reading, IsNotBuilt, not_built, words_answer}
 use Rattle.thing_script.specs.Topics.{script_with}
 
 -- all of the source was read
@@ -95,22 +95,15 @@ pub replay_told : (a : Option (List ℕ)) (command : Words) (words : RunWords) (
     → IfSome a (λ text. result ≢ 9 → Answers result old new (source_answer words text)) → IfSome a (λ text. result ≢ 9 → Answers result old new (words_answer (Some command) text))
 replay_told a command words result old new e h = subst (λ (c : Words). IfSome a (λ text. result ≢ 9 → Answers result old new (words_answer (Some c) text))) (sym e) h
 
--- a command that isn't there yet
-abbrev pub IsOther : Words → Type 0
-IsOther (Replay words) = ⊥
-IsOther (Share words) = Unit {0}
-IsOther (Fetch words) = Unit {0}
-IsOther (Broker words) = Unit {0}
-IsOther (World words) = Unit {0}
-
-other_answer : (command : Words) (text : List ℕ) → IsOther command → words_answer (Some command) text ≡ not_built
+-- a command that this program doesn't have yet
+other_answer : (command : Words) (text : List ℕ) → IsNotBuilt command → words_answer (Some command) text ≡ not_built
 other_answer (Replay words) text other = absurd other
 other_answer (Share words) text other = refl
 other_answer (Fetch words) text other = refl
 other_answer (Broker words) text other = refl
 other_answer (World words) text other = refl
 
-pub other_told : (a : Option (List ℕ)) (command : Words) (result : ℕ) (old new : Option (List ℕ)) → IsOther command → Answers result old new not_built
+pub other_told : (a : Option (List ℕ)) (command : Words) (result : ℕ) (old new : Option (List ℕ)) → IsNotBuilt command → Answers result old new not_built
     → IfSome a (λ text. result ≢ 9 → Answers result old new (words_answer (Some command) text))
 other_told None command result old new other h = tt
 other_told (Some text) command result old new other h = λ source. subst (Answers result old new) (sym (other_answer command text other)) h
@@ -124,3 +117,15 @@ pub none_told : (a : Option (List ℕ)) (read : Option Words) (result : ℕ) (ol
     → IfSome a (λ text. result ≢ 9 → Answers result old new (words_answer read text))
 none_told None read result old new e h = tt
 none_told (Some text) read result old new e h = λ other. subst (λ (r : Option Words). Answers result old new (words_answer r text)) (sym e) h
+
+-- the same whatever the source is: of a command that ran, of words without a reading, and of a run that had no memory
+pub not_built_told : (read : Option Words) (command : Words) (result : ℕ) (old new : Option (List ℕ)) → read ≡ Some command → (IsNotBuilt command → Answers result old new not_built)
+    → IfSome read (λ command. IsNotBuilt command → Answers result old new not_built)
+not_built_told read command result old new e h = rw e h
+
+pub none_not_built : (read : Option Words) (result : ℕ) (old new : Option (List ℕ)) → read ≡ None → IfSome read (λ command. IsNotBuilt command → Answers result old new not_built)
+none_not_built read result old new e = rw e tt
+
+pub no_run_not_built : (read : Option Words) (old new : Option (List ℕ)) → IfSome read (λ command. IsNotBuilt command → Answers 7 old new not_built)
+no_run_not_built None old new = tt
+no_run_not_built (Some command) old new = λ other. record { whole = λ n m. absurd (n refl); status = λ n m. absurd (n refl) }

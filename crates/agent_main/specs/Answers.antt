@@ -7,13 +7,14 @@ use Rattle.agent_journal.specs.declared.script.Script.{Script}
 use Rattle.agent_journal.specs.Texts.{joined, line_end}
 use Rattle.agent_script.specs.Scripts.{script_of}
 use Rattle.agent_table.specs.Sizes.{Sizes}
+use Rattle.command_answers.specs.Answers.{Answer, answer}
 use Rattle.command_words.specs.Commands.{words_of}
 use Rattle.command_words.specs.declared.words.RunWords.{RunWords}
 use Rattle.command_words.specs.declared.words.Size.{Size}
 use Rattle.command_words.specs.declared.words.Size.TheVariants.{Tiny, Usual}
 use Rattle.command_words.specs.declared.words.Words.{Words}
 use Rattle.command_words.specs.declared.words.Words.TheVariants.{Replay, Share, Fetch, Broker, World}
-use Rattle.replay_run.specs.Answers.{Answer, answer, replay_answer}
+use Rattle.replay_run.specs.Answers.{replay_answer}
 use Rattle.thing_script.specs.Topics.{script_with}
 
 -- how many commands, received QoS 2 publishes and routes an agent of this size has room for
@@ -55,6 +56,13 @@ abbrev pub no_reading : Answer
 no_reading = answer 1 (codes "fault words\n")
 
 -- a command that this program doesn't have yet
+abbrev pub IsNotBuilt : Words → Type 0
+IsNotBuilt (Replay words) = ⊥
+IsNotBuilt (Share words) = Unit {0}
+IsNotBuilt (Fetch words) = Unit {0}
+IsNotBuilt (Broker words) = Unit {0}
+IsNotBuilt (World words) = Unit {0}
+
 abbrev pub not_built : Answer
 not_built = answer 13 (codes "fault not built\n")
 

@@ -4,10 +4,10 @@
 ghost use Rattle.std.specs.Prelude.{◌≡◌, ◌≢◌, map, Some, None, IfSome, IfOk};
 ghost use Rattle.std.specs.String.{string_bytes};
 ghost use Rattle.agent_link.specs.Counts.{Rose};
+ghost use Rattle.command_answers.specs.Answers.{Answers};
 ghost use Rattle.command_words.specs.Commands.{words_of};
 ghost use Rattle.command_words.specs.declared.words.RunWords.{RunWords};
 ghost use Rattle.command_words.specs.declared.words.Words.TheVariants.{Replay};
-ghost use Rattle.replay_run.specs.Answers.{Answers};
 ghost use Rattle.agent_main.specs.Answers.{whole_answer};
 ghost use Rattle.agent_main.specs.Headline.{HasRun, PrintsReplay};
 

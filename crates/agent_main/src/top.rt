@@ -7,12 +7,13 @@ ghost use Rattle.plain_text.specs.Lines.{lines_of};
 ghost use Rattle.agent_link.specs.Counts.{Rose};
 ghost use Rattle.broker_tape.specs.Tape.{tape_in};
 ghost use Rattle.agent_journal.specs.Setups.{is_client};
+ghost use Rattle.command_answers.specs.Answers.{Answers};
 ghost use Rattle.command_words.specs.Commands.{words_of};
 ghost use Rattle.command_words.specs.Ranges.{AreInRange};
 ghost use Rattle.command_words.specs.declared.words.RunWords.{RunWords};
 ghost use Rattle.command_words.specs.declared.words.Words.TheVariants.{Replay};
 ghost use Rattle.replay_rounds.specs.Asked.{IsValidLine};
-ghost use Rattle.replay_run.specs.Answers.{Answers, replay_answer};
+ghost use Rattle.replay_run.specs.Answers.{replay_answer};
 ghost use Rattle.thing_script.specs.Plain.{IsShortLine};
 ghost use Rattle.agent_main.specs.Answers as answers;
 ghost use Rattle.agent_main.specs.Headline.{HasRun, PrintsReplay};
@@ -22,8 +23,9 @@ use agent_journal::{Part, Script, ScriptFault, write_parts};
 use agent_link::{Fault, Sink, Source, read_all};
 use agent_script::read_script;
 use broker_tape::{Tape, TapeFault, read_tape};
+use command_answers::{exit_status, finish};
 use command_words::{RunWords, Size, Words, WordsFault, read_words};
-use replay_run::{finish, replay_call};
+use replay_run::replay_call;
 use std::alloc::Global;
 use thing_script::{LineFault, with_topics};
 
@@ -35,7 +37,7 @@ const SOURCE_LIMIT: usize = 1_048_576;
 /// broker held an old session. Of each command: 1 where the words have no reading, 2 where the source has a bad line or too
 /// many bytes, 7 where memory ran out, 8 where the sink failed, 9 where the source failed, and 13 where the command isn't
 /// built yet.
-#[tactic(auto, using(crate::proofs::Told::words_told, crate::proofs::Told::none_told, crate::proofs::Headline::promise_kept, crate::proofs::Headline::no_promise, crate::proofs::Headline::no_run))]
+#[tactic(auto, using(crate::proofs::Told::words_told, crate::proofs::Told::none_told, crate::proofs::Told::not_built_told, crate::proofs::Told::none_not_built, crate::proofs::Told::no_run_not_built, crate::proofs::Headline::promise_kept, crate::proofs::Headline::no_promise, crate::proofs::Headline::no_run))]
 pub fn top<S: Source, O: Sink>(alloc: Global, words: &[&str], script: &mut S, out: &mut O) -> u8
     // What is written and answered is a function of the words and the source's bytes.
     ensures answer { IfSome (S.left script.old) (λ text. result ≢ 9 →
@@ -43,8 +45,11 @@ pub fn top<S: Source, O: Sink>(alloc: Global, words: &[&str], script: &mut S, ou
     // Where an agent ran, what is written is one legal history of it.
     ensures history { IfSome (S.left script.old) (λ text. HasRun result → (w : RunWords) → words_of (map (λ word. word.now) words.now) ≡ Some (Replay w) →
         PrintsReplay w text result (O.written out.old) (O.written out.new)) }
+    // Words alone decide what isn't a replay, whatever the source is.
     ensures no_reading { words_of (map (λ word. word.now) words.now) ≡ None →
         Answers result (O.written out.old) (O.written out.new) answers.no_reading }
+    ensures not_built { IfSome (words_of (map (λ word. word.now) words.now)) (λ command. answers.IsNotBuilt command →
+        Answers result (O.written out.old) (O.written out.new) answers.not_built) }
     ensures words { result ≡ 1 → words_of (map (λ word. word.now) words.now) ≡ None }
     ensures source_fault { result ≡ 9 → Rose (S.faults script.old) (S.faults script.new) }
     ensures sink_fault { result ≡ 8 → Rose (O.faults out.old) (O.faults out.new) }
@@ -60,6 +65,7 @@ pub fn top<S: Source, O: Sink>(alloc: Global, words: &[&str], script: &mut S, ou
 #[tactic(auto, using(crate::proofs::Told::replay_told, crate::proofs::Told::other_told, crate::proofs::Headline::replay_kept, crate::proofs::Headline::other_kept))]
 fn run_command<S: Source, O: Sink>(alloc: Global, words: &Words, script: &mut S, out: &mut O) -> u8
     requires { AreInRange words.now }
+    ensures not_built { answers.IsNotBuilt words.now → Answers result (O.written out.old) (O.written out.new) answers.not_built }
     ensures answer { IfSome (S.left script.old) (λ text. result ≢ 9 →
         Answers result (O.written out.old) (O.written out.new) (answers.words_answer (Some words.now) text)) }
     ensures history { IfSome (S.left script.old) (λ text. HasRun result → (w : RunWords) → words.now ≡ Replay w →
@@ -220,21 +226,19 @@ fn replay_in<O: Sink>(
 }
 
 /// The last line for a source whose line `number` isn't in the grammar.
+#[tactic(auto, using(command_answers::proofs::Written::answered, command_answers::proofs::Written::failed, command_answers::proofs::Written::one_of))]
 fn refuse_line<O: Sink>(out: &mut O, number: u64) -> u8
     ensures answer { Answers result (O.written out.old) (O.written out.new) (answers.bad_line number) }
     ensures sink_fault { result ≡ 8 → Rose (O.faults out.old) (O.faults out.new) }
     ensures one_of { (result ≡ 2) ⊎ (result ≡ 7) ⊎ (result ≡ 8) }
 {
-    match write_parts(
+    let written = write_parts(
         out,
         &[
             Part::Plain(b"fault script "),
             Part::Number(number),
             Part::Plain(b"\n"),
         ],
-    ) {
-        Ok(()) => 2,
-        Err(Fault::Failed) => 8,
-        Err(Fault::NoMemory) => 7,
-    }
+    );
+    exit_status(written, 2)
 }

@@ -1,4 +1,5 @@
 pub mod Setups
+pub mod Names
 pub mod Options
 pub mod Given
 pub mod Reading

@@ -1,14 +1,19 @@
 //! The five commands, each with the table of its options.
 
-ghost use Rattle.std.specs.Prelude.{◌≡◌, ◌≤◌, [], true, codes, IfOk, IfSome};
+ghost use Rattle.std.specs.Prelude.{◌≡◌, ◌≤◌, [], true, IfOk, IfSome};
 ghost use Rattle.command_words.specs.Commands as commands;
 ghost use Rattle.command_words.specs.Given.{all_given, texts};
+ghost use Rattle.command_words.specs.Names as names;
 ghost use Rattle.command_words.specs.Ranges.{AreInRange, AreRunWords, AreFetchWords, AreBrokerWords, AreWorldWords, IsBlock};
 ghost use Rattle.command_words.specs.Reading.{Gives};
 ghost use Rattle.command_words.specs.Rows.{is_address, number_or};
 
 use crate::classes::Class;
 use crate::faults::WordsFault;
+use crate::names::{
+    BLOCK, CLIENT, CONNECT, CONNECTIONS, DUMP, EVENTS, KEEP_ALIVE, LISTEN, REOPEN, SEED, SIZE,
+    THING, TICK, TRIES, WIPE,
+};
 use crate::options::{Given, options_in};
 use crate::rows::{flag, number, number_or, text, text_or_none, value_of};
 use crate::tables::{broker_options, fetch_options, replay_options, share_options, world_options};
@@ -57,13 +62,13 @@ fn replay(alloc: Global, given: &[Given<'_>]) -> Result<RunWords, WordsFault>
     ensures ranges { IfOk result (λ words. AreRunWords words × (words.to ≡ [])) }
 {
     let options = replay_options(given)?;
-    let client = text(alloc, Class::Client, "--client", options)?;
+    let client = text(alloc, Class::Client, CLIENT, options)?;
     let keep_alive = keep_alive_in(options)?;
     let reopen = reopen_in(options)?;
-    let tick = number_or(0, 0, 1_000_000, "--tick", options)?;
-    let size = size_or(Size::Usual, "--size", options)?;
-    let thing = text_or_none(alloc, Class::Thing, "--thing", options)?;
-    let wipe = flag("--wipe", options)?;
+    let tick = number_or(0, 0, 1_000_000, TICK, options)?;
+    let size = size_or(Size::Usual, SIZE, options)?;
+    let thing = text_or_none(alloc, Class::Thing, THING, options)?;
+    let wipe = flag(WIPE, options)?;
     let to = Text::from_str(alloc, "")?;
     Ok(RunWords {
         to,
@@ -83,13 +88,13 @@ fn share(alloc: Global, given: &[Given<'_>]) -> Result<RunWords, WordsFault>
     ensures ranges { IfOk result (λ words. AreRunWords words × (is_address words.to ≡ true) × (words.tick ≡ 0)) }
 {
     let options = share_options(given)?;
-    let to = text(alloc, Class::Address, "--connect", options)?;
-    let client = text(alloc, Class::Client, "--client", options)?;
+    let to = text(alloc, Class::Address, CONNECT, options)?;
+    let client = text(alloc, Class::Client, CLIENT, options)?;
     let keep_alive = keep_alive_in(options)?;
     let reopen = reopen_in(options)?;
-    let size = size_or(Size::Usual, "--size", options)?;
-    let thing = text_or_none(alloc, Class::Thing, "--thing", options)?;
-    let wipe = flag("--wipe", options)?;
+    let size = size_or(Size::Usual, SIZE, options)?;
+    let thing = text_or_none(alloc, Class::Thing, THING, options)?;
+    let wipe = flag(WIPE, options)?;
     Ok(RunWords {
         to,
         client,
@@ -108,15 +113,15 @@ fn fetch(alloc: Global, given: &[Given<'_>]) -> Result<FetchWords, WordsFault>
     ensures ranges { IfOk result AreFetchWords }
 {
     let options = fetch_options(given)?;
-    let to = text(alloc, Class::Address, "--connect", options)?;
-    let client = text(alloc, Class::Client, "--client", options)?;
-    let thing = text(alloc, Class::Thing, "--thing", options)?;
+    let to = text(alloc, Class::Address, CONNECT, options)?;
+    let client = text(alloc, Class::Client, CLIENT, options)?;
+    let thing = text(alloc, Class::Thing, THING, options)?;
     let keep_alive = keep_alive_in(options)?;
     let reopen = reopen_in(options)?;
-    let wipe = flag("--wipe", options)?;
-    let block = power_or(4_096, "--block", options)?;
-    let tries = number_or(5, 0, 100, "--tries", options)? as u32;
-    let dump = flag("--dump", options)?;
+    let wipe = flag(WIPE, options)?;
+    let block = power_or(4_096, BLOCK, options)?;
+    let tries = number_or(5, 0, 100, TRIES, options)? as u32;
+    let dump = flag(DUMP, options)?;
     Ok(FetchWords {
         to,
         client,
@@ -136,8 +141,8 @@ fn broker(alloc: Global, given: &[Given<'_>]) -> Result<BrokerWords, WordsFault>
     ensures ranges { IfOk result AreBrokerWords }
 {
     let options = broker_options(given)?;
-    let at = text(alloc, Class::Address, "--listen", options)?;
-    let connections = number(1, 1_000_000, "--connections", options)? as u32;
+    let at = text(alloc, Class::Address, LISTEN, options)?;
+    let connections = number(1, 1_000_000, CONNECTIONS, options)? as u32;
     Ok(BrokerWords { at, connections })
 }
 
@@ -147,24 +152,24 @@ fn world(given: &[Given<'_>]) -> Result<WorldWords, WordsFault>
     ensures ranges { IfOk result AreWorldWords }
 {
     let options = world_options(given)?;
-    let seed = number(0, u64::MAX, "--seed", options)?;
-    let events = number(1, 1_000_000, "--events", options)? as u32;
+    let seed = number(0, u64::MAX, SEED, options)?;
+    let events = number(1, 1_000_000, EVENTS, options)? as u32;
     Ok(WorldWords { seed, events })
 }
 
 /// The keep alive in seconds, 60 where it isn't given.
 fn keep_alive_in(options: &[Given<'_>]) -> Result<u16, WordsFault>
-    ensures { Gives (λ number. number) result (number_or 60 0 65535 (codes "--keep-alive") (all_given options.now)) }
+    ensures { Gives (λ number. number) result (number_or 60 0 65535 names.keep_alive (all_given options.now)) }
 {
-    Ok(number_or(60, 0, 65_535, "--keep-alive", options)? as u16)
+    Ok(number_or(60, 0, 65_535, KEEP_ALIVE, options)? as u16)
 }
 
 /// How often a broken connection is opened again, 5 where it isn't given.
 fn reopen_in(options: &[Given<'_>]) -> Result<u32, WordsFault>
-    ensures number { Gives (λ number. number) result (number_or 5 0 1000 (codes "--reopen") (all_given options.now)) }
+    ensures number { Gives (λ number. number) result (number_or 5 0 1000 names.reopen (all_given options.now)) }
     ensures small { IfOk result (λ number. number ≤ 1000) }
 {
-    Ok(number_or(5, 0, 1_000, "--reopen", options)? as u32)
+    Ok(number_or(5, 0, 1_000, REOPEN, options)? as u32)
 }
 
 /// `tiny` or `usual`.
@@ -208,14 +213,9 @@ fn power_in(value: &str) -> Option<u32>
     ensures block { IfSome result IsBlock }
 {
     let number = number_in(256, 65_536, value.as_bytes())? as u32;
-    if is_power(number) { Some(number) } else { None }
-}
-
-fn is_power(number: u32) -> bool
-    ensures { result ≡ commands.is_power number }
-{
-    matches!(
-        number,
-        256 | 512 | 1_024 | 2_048 | 4_096 | 8_192 | 16_384 | 32_768 | 65_536
-    )
+    if number.is_power_of_two() {
+        Some(number)
+    } else {
+        None
+    }
 }

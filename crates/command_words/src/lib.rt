@@ -5,6 +5,7 @@ mod classes;
 mod commands;
 mod faults;
 mod laws;
+mod names;
 mod options;
 mod rows;
 mod tables;

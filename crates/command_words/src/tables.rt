@@ -7,6 +7,10 @@ ghost use Rattle.command_words.specs.Reading.{Gives};
 ghost use Rattle.command_words.specs.Rows as rows;
 
 use crate::faults::WordsFault;
+use crate::names::{
+    BLOCK, CLIENT, CONNECT, CONNECTIONS, DUMP, EVENTS, KEEP_ALIVE, LISTEN, REOPEN, SEED, SIZE,
+    THING, TICK, TRIES, WIPE,
+};
 use crate::options::Given;
 use crate::rows::only;
 
@@ -16,15 +20,7 @@ pub(crate) fn replay_options<'a, 'b>(given: &'b [Given<'a>]) -> Result<&'b [Give
     ensures { Gives (λ options. all_given options.now) result (rows.only commands.replay_names (all_given given.now)) }
 {
     only(
-        &[
-            "--client",
-            "--keep-alive",
-            "--reopen",
-            "--tick",
-            "--size",
-            "--thing",
-            "--wipe",
-        ],
+        &[CLIENT, KEEP_ALIVE, REOPEN, TICK, SIZE, THING, WIPE],
         given,
     )
 }
@@ -35,15 +31,7 @@ pub(crate) fn share_options<'a, 'b>(given: &'b [Given<'a>]) -> Result<&'b [Given
     ensures { Gives (λ options. all_given options.now) result (rows.only commands.share_names (all_given given.now)) }
 {
     only(
-        &[
-            "--connect",
-            "--client",
-            "--keep-alive",
-            "--reopen",
-            "--size",
-            "--thing",
-            "--wipe",
-        ],
+        &[CONNECT, CLIENT, KEEP_ALIVE, REOPEN, SIZE, THING, WIPE],
         given,
     )
 }
@@ -55,15 +43,7 @@ pub(crate) fn fetch_options<'a, 'b>(given: &'b [Given<'a>]) -> Result<&'b [Given
 {
     only(
         &[
-            "--connect",
-            "--client",
-            "--thing",
-            "--keep-alive",
-            "--reopen",
-            "--wipe",
-            "--block",
-            "--tries",
-            "--dump",
+            CONNECT, CLIENT, THING, KEEP_ALIVE, REOPEN, WIPE, BLOCK, TRIES, DUMP,
         ],
         given,
     )
@@ -74,7 +54,7 @@ pub(crate) fn fetch_options<'a, 'b>(given: &'b [Given<'a>]) -> Result<&'b [Given
 pub(crate) fn broker_options<'a, 'b>(given: &'b [Given<'a>]) -> Result<&'b [Given<'a>], WordsFault>
     ensures { Gives (λ options. all_given options.now) result (rows.only commands.broker_names (all_given given.now)) }
 {
-    only(&["--listen", "--connections"], given)
+    only(&[LISTEN, CONNECTIONS], given)
 }
 
 /// The options, where a world has each of them.
@@ -82,5 +62,5 @@ pub(crate) fn broker_options<'a, 'b>(given: &'b [Given<'a>]) -> Result<&'b [Give
 pub(crate) fn world_options<'a, 'b>(given: &'b [Given<'a>]) -> Result<&'b [Given<'a>], WordsFault>
     ensures { Gives (λ options. all_given options.now) result (rows.only commands.world_names (all_given given.now)) }
 {
-    only(&["--seed", "--events"], given)
+    only(&[SEED, EVENTS], given)
 }

@@ -29,9 +29,9 @@ fn text(alloc: Global, text: &str) -> Result<Text, AllocError> {
     Text::from_str(alloc, text)
 }
 
-/// The options of a replay of `dev`, all others as they are where they aren't given.
-fn replay_of_dev(alloc: Global) -> Result<RunWords, AllocError> {
-    let to = text(alloc, "")?;
+/// The options of a run of `dev` at this address, all others as they are where they aren't given.
+fn run_of_dev(alloc: Global, to: &str) -> Result<RunWords, AllocError> {
+    let to = text(alloc, to)?;
     let client = text(alloc, "dev")?;
     Ok(RunWords {
         to,
@@ -45,74 +45,12 @@ fn replay_of_dev(alloc: Global) -> Result<RunWords, AllocError> {
     })
 }
 
-#[test]
-fn a_replay_has_its_defaults(rt: HostRuntime) -> Result<(), Fail> {
-    let alloc = rt.alloc();
-    let words = Words::Replay(replay_of_dev(alloc)?);
-    assert!(rt; is_read(alloc, "replay --client dev", &words));
-    assert!(rt; is_read(alloc, "replay --client=dev", &words));
-    Ok(())
-}
-
-#[test]
-fn a_run_has_its_agent(rt: HostRuntime) -> Result<(), Fail> {
-    let alloc = rt.alloc();
-    let words = replay_of_dev(alloc)?;
-    let setup = words.setup(alloc, 3)?;
-    assert_eq!(rt; setup.client.as_str(), "dev");
-    assert_eq!(rt; setup.tasks, 3);
-    Ok(())
-}
-
-#[test]
-fn a_replay_has_its_options(rt: HostRuntime) -> Result<(), Fail> {
-    let alloc = rt.alloc();
-    let to = text(alloc, "")?;
-    let client = text(alloc, "a=b")?;
-    let thing = text(alloc, "t:1")?;
-    let words = Words::Replay(RunWords {
-        to,
-        client,
-        keep_alive: 65_535,
-        reopen: 1_000,
-        wipe: true,
-        tick: 1_000_000,
-        size: Size::Tiny,
-        thing: Some(thing),
-    });
-    let line =
-        "replay --wipe --thing t:1 --size=tiny --tick 1000000 --reopen=1000 --client=a=b --keep-alive 65535";
-    assert!(rt; is_read(alloc, line, &words));
-    Ok(())
-}
-
-#[test]
-fn a_shared_run_has_its_options(rt: HostRuntime) -> Result<(), Fail> {
-    let alloc = rt.alloc();
-    let to = text(alloc, "h:1883")?;
-    let client = text(alloc, "dev")?;
-    let words = Words::Share(RunWords {
-        to,
-        client,
-        keep_alive: 0,
-        reopen: 0,
-        wipe: false,
-        tick: 0,
-        size: Size::Usual,
-        thing: None,
-    });
-    let line = "share --connect h:1883 --client dev --keep-alive 0 --reopen 0 --size usual";
-    assert!(rt; is_read(alloc, line, &words));
-    Ok(())
-}
-
-#[test]
-fn a_fetch_has_its_defaults(rt: HostRuntime) -> Result<(), Fail> {
-    let alloc = rt.alloc();
+/// The same of a fetch of the thing `t1` at `h`.
+fn fetch_of_dev(alloc: Global) -> Result<FetchWords, AllocError> {
     let to = text(alloc, "h")?;
     let client = text(alloc, "dev")?;
     let thing = text(alloc, "t1")?;
-    let words = Words::Fetch(FetchWords {
+    Ok(FetchWords {
         to,
         client,
         keep_alive: 60,
@@ -122,32 +60,77 @@ fn a_fetch_has_its_defaults(rt: HostRuntime) -> Result<(), Fail> {
         block: 4_096,
         tries: 5,
         dump: false,
-    });
-    let line = "fetch --connect h --client dev --thing t1";
-    assert!(rt; is_read(alloc, line, &words));
+    })
+}
+
+#[test]
+fn a_replay_has_its_defaults(rt: HostRuntime) -> Result<(), Fail> {
+    let alloc = rt.alloc();
+    let words = Words::Replay(run_of_dev(alloc, "")?);
+    assert!(rt; is_read(alloc, "replay --client dev", &words));
+    assert!(rt; is_read(alloc, "replay --client=dev", &words));
+    Ok(())
+}
+
+#[test]
+fn a_run_has_its_agent(rt: HostRuntime) -> Result<(), Fail> {
+    let alloc = rt.alloc();
+    let words = run_of_dev(alloc, "")?;
+    let setup = words.setup(alloc, 3)?;
+    assert_eq!(rt; setup.client.as_str(), "dev");
+    assert_eq!(rt; setup.tasks, 3);
+    Ok(())
+}
+
+#[test]
+fn a_replay_has_its_options(rt: HostRuntime) -> Result<(), Fail> {
+    let alloc = rt.alloc();
+    let mut words = run_of_dev(alloc, "")?;
+    words.client = text(alloc, "a=b")?;
+    words.keep_alive = 65_535;
+    words.reopen = 1_000;
+    words.wipe = true;
+    words.tick = 1_000_000;
+    words.size = Size::Tiny;
+    words.thing = Some(text(alloc, "t:1")?);
+    let line =
+        "replay --wipe --thing t:1 --size=tiny --tick 1000000 --reopen=1000 --client=a=b --keep-alive 65535";
+    assert!(rt; is_read(alloc, line, &Words::Replay(words)));
+    Ok(())
+}
+
+#[test]
+fn a_shared_run_has_its_options(rt: HostRuntime) -> Result<(), Fail> {
+    let alloc = rt.alloc();
+    let mut words = run_of_dev(alloc, "h:1883")?;
+    words.keep_alive = 0;
+    words.reopen = 0;
+    let line = "share --connect h:1883 --client dev --keep-alive 0 --reopen 0 --size usual";
+    assert!(rt; is_read(alloc, line, &Words::Share(words)));
+    Ok(())
+}
+
+#[test]
+fn a_fetch_has_its_defaults(rt: HostRuntime) -> Result<(), Fail> {
+    let alloc = rt.alloc();
+    let words = Words::Fetch(fetch_of_dev(alloc)?);
+    assert!(rt; is_read(alloc, "fetch --connect h --client dev --thing t1", &words));
     Ok(())
 }
 
 #[test]
 fn a_fetch_has_its_options(rt: HostRuntime) -> Result<(), Fail> {
     let alloc = rt.alloc();
-    let to = text(alloc, "h")?;
-    let client = text(alloc, "dev")?;
-    let thing = text(alloc, "t1")?;
-    let words = Words::Fetch(FetchWords {
-        to,
-        client,
-        keep_alive: 1,
-        reopen: 2,
-        wipe: true,
-        thing,
-        block: 65_536,
-        tries: 100,
-        dump: true,
-    });
+    let mut words = fetch_of_dev(alloc)?;
+    words.keep_alive = 1;
+    words.reopen = 2;
+    words.wipe = true;
+    words.block = 65_536;
+    words.tries = 100;
+    words.dump = true;
     let line =
         "fetch --dump --tries 100 --block=65536 --wipe --reopen 2 --keep-alive 1 --thing t1 --client dev --connect h";
-    assert!(rt; is_read(alloc, line, &words));
+    assert!(rt; is_read(alloc, line, &Words::Fetch(words)));
     Ok(())
 }
 

@@ -13,7 +13,8 @@ use Rattle.command_words.specs.Setups.{setup_of}
 use Rattle.replay_rounds.specs.Bound.{finished}
 use Rattle.replay_rounds.specs.Endings.{ending_of}
 use Rattle.replay_rounds.specs.Rounds.{begun}
-use Rattle.replay_run.specs.Answers.{answer, answer_by, report, replay_answer, IsPlain}
+use Rattle.command_answers.specs.Answers.{answer, IsPlain}
+use Rattle.replay_run.specs.Answers.{answer_by, report, replay_answer}
 
 -- a journal of that replay, and how it ended
 pub answered : (words : RunWords) (sizes : Sizes) (script : Script) (items : List Item) (setup : Setup) (journal : List Entry) (ending : Ending) → setup ≡ setup_of words script.tasks

@@ -11,7 +11,8 @@ use Rattle.replay_rounds.specs.Asked.{IsValidLine}
 use Rattle.replay_rounds.specs.Bound.{finished}
 use Rattle.replay_rounds.specs.Rounds.{begun}
 use Rattle.replay_rounds.proofs.Histories.{replays_are_histories}
-use Rattle.replay_run.specs.Answers.{Answers, answer_by, replay_answer}
+use Rattle.command_answers.specs.Answers.{Answers}
+use Rattle.replay_run.specs.Answers.{answer_by, replay_answer}
 use Rattle.replay_run.specs.Headline.{PrintsHistory}
 
 pub prints_history : (words : RunWords) (sizes : Sizes) (script : Script) (items : List Item) (result : ℕ) (old new : Option (List ℕ)) → Answers result old new (replay_answer words sizes script items) → script.tasks ≡ 1

@@ -3,7 +3,7 @@ use Rattle.std.proofs.Common.{◌≡◌, ℕ, ◌+◌, ◌<◌, ◌≤◌, List,
 use Rattle.std.specs.Prelude.{count_by}
 use Rattle.std.proofs.lemmas.List.{take_more, take_all, reverse-append}
 use Rattle.agent_journal.specs.declared.entry.Entry.{Entry}
-use Rattle.agent_journal.specs.Projections.{commands_of, commands_by, completed_of, is_done, messages_of, is_pass}
+use Rattle.agent_journal.specs.Projections.{commands_of, commands_by, completed_of, is_done}
 
 module _ (count : List Entry → ℕ) (one : Entry → ℕ) (next : (e : Entry) (past : List Entry) → count (e ∷ past) ≡ count past + one e) where
   on : (journal : List Entry) (i n : ℕ) (e : Entry) → i < length journal → e ≡ get_or journal i e → n ≡ count (reverse (take i journal)) → n + one e ≡ count (reverse (take (i + 1) journal))
@@ -25,9 +25,3 @@ completed_on = on (completed_of 0) (λ e. count_by (is_done 0) e.effects) (λ e 
 
 pub completed_all : (journal : List Entry) (i n : ℕ) → length journal ≤ i → n ≡ completed_of 0 (reverse (take i journal)) → n ≡ completed_of 0 (reverse journal)
 completed_all = all (completed_of 0) (λ e. count_by (is_done 0) e.effects) (λ e past. refl)
-
-pub messages_on : (journal : List Entry) (i n : ℕ) (e : Entry) → i < length journal → e ≡ get_or journal i e → n ≡ messages_of 0 (reverse (take i journal)) → n + count_by (is_pass 0) e.effects ≡ messages_of 0 (reverse (take (i + 1) journal))
-messages_on = on (messages_of 0) (λ e. count_by (is_pass 0) e.effects) (λ e past. refl)
-
-pub messages_all : (journal : List Entry) (i n : ℕ) → length journal ≤ i → n ≡ messages_of 0 (reverse (take i journal)) → n ≡ messages_of 0 (reverse journal)
-messages_all = all (messages_of 0) (λ e. count_by (is_pass 0) e.effects) (λ e past. refl)

@@ -1,6 +1,5 @@
 -- What a replay prints, and its exit status.
-use Rattle.std.specs.Prelude.{◌≡◌, ◌≢◌, ℕ, List, [], ◌∷◌, ◌++◌, reverse, Option, Some, None, codes, decimal}
-use Rattle.std.specs.Io.KnownBytes.{Appends}
+use Rattle.std.specs.Prelude.{ℕ, List, [], ◌∷◌, ◌++◌, reverse, Option, Some, None, codes, decimal}
 use Rattle.broker_tape.specs.declared.tape.Item.{Item}
 use Rattle.agent_journal.specs.declared.entry.Entry.{Entry}
 use Rattle.agent_journal.specs.declared.ending.Ending.{Ending}
@@ -10,6 +9,7 @@ use Rattle.agent_journal.specs.Endings.{status}
 use Rattle.agent_journal.specs.Projections.{commands_of, completed_of, messages_of}
 use Rattle.agent_journal.specs.Texts.{joined, line_end, last_line, journal_text}
 use Rattle.agent_table.specs.Sizes.{Sizes}
+use Rattle.command_answers.specs.Answers.{Answer, answer}
 use Rattle.command_words.specs.declared.words.RunWords.{RunWords}
 use Rattle.command_words.specs.Setups.{setup_of}
 use Rattle.replay_rounds.specs.World.{World}
@@ -17,13 +17,6 @@ use Rattle.replay_rounds.specs.Bound.{finished}
 use Rattle.replay_rounds.specs.Endings.{ending_of}
 use Rattle.replay_rounds.specs.Rounds.{begun}
 use Rattle.thing_script.specs.Kinds.{count_passed, is_shadow_of, is_jobs_of}
-
-pub record Answer : Type 0 where
-  pub text : List ℕ
-  pub status : ℕ
-
-abbrev pub answer : ℕ → List ℕ → Answer
-answer status text = record { text = text; status = status }
 
 -- how many commands a task sent, how many completions it got and how many messages
 abbrev pub task_line : ℕ → List Entry → List ℕ
@@ -54,13 +47,3 @@ answer_of thing setup sizes w = answer_by thing w.past (ending_of setup sizes w.
 unfoldable pub replay_answer : RunWords → Sizes → Script → List Item → Answer
 replay_answer words sizes script items =
     answer_of words.thing (setup_of words script.tasks) sizes (finished (begun (setup_of words script.tasks) sizes words.tick script.lines items))
-
--- Unless memory or the sink failed, the text was written whole and this is the status.
-pub record Answers (result : ℕ) (old new : Option (List ℕ)) (a : Answer) : Type 0 where
-  pub whole : result ≢ 7 → result ≢ 8 → Appends old new a.text
-  pub status : result ≢ 7 → result ≢ 8 → result ≡ a.status
-
--- A status that neither want of memory nor a fault of the sink has.
-pub record IsPlain (status : ℕ) : Type 0 where
-  pub not_memory : status ≢ 7
-  pub not_sink : status ≢ 8

@@ -9,14 +9,15 @@ ghost use Rattle.agent_journal.specs.Setups.{is_client};
 ghost use Rattle.command_words.specs.Setups.{setup_of};
 ghost use Rattle.replay_rounds.specs.Asked.{IsValidLine};
 ghost use Rattle.replay_agent.specs.Runs.{sizes_of};
-ghost use Rattle.replay_run.specs.Answers.{Answers, IsPlain, answer, replay_answer};
+ghost use Rattle.command_answers.specs.Answers.{Answers, IsPlain, answer};
+ghost use Rattle.replay_run.specs.Answers.{replay_answer};
 ghost use Rattle.replay_run.specs.Headline.{PrintsHistory};
 
-use crate::exit::finish;
 use crate::report::report_of;
 use agent_journal::Script;
 use agent_link::{Page, Sink};
 use broker_tape::Tape;
+use command_answers::finish;
 use command_words::RunWords;
 use mqtt_packet::NoMemory;
 use replay_agent::replay;
@@ -71,7 +72,7 @@ fn replayed<const ACKS: usize, const IN: usize, const ROUTES: usize>(
 {
     let setup = words.setup(alloc, script.tasks)?;
     let replayed = replay::<ACKS, IN, ROUTES>(alloc, setup, words.tick, script, tape)?;
-    match report_of(alloc, &words.thing, &replayed.journal, replayed.ending) {
+    match report_of(alloc, &words.thing, &replayed) {
         Ok(page) => Ok((page, replayed.ending.status())),
         Err(_) => Err(AllocError),
     }

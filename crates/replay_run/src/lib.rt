@@ -2,8 +2,6 @@
 #![tactic(auto)]
 
 mod command;
-mod exit;
 mod report;
 
 pub use command::replay_call;
-pub use exit::finish;

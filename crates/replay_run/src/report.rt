@@ -9,29 +9,29 @@ ghost use Rattle.agent_journal.specs.Projections as projections;
 ghost use Rattle.agent_journal.specs.Texts.{journal_text, entry_text, last_line};
 ghost use Rattle.replay_run.specs.Answers.{task_line, kinds_of, kinds_line, report};
 
-use agent_journal::{
-    Cause, Effect, Ending, Entry, Journal, Part, Request, write_entry, write_parts,
-};
+use agent_journal::{Cause, Effect, Ending, Entry, Part, Request, write_entry, write_parts};
 use agent_link::{Fault, Page, Sink};
 use list_types::Text;
+use replay_agent::Replayed;
 use std::alloc::Global;
 use thing_script::kinds_of;
 
-/// The printed text of a journal that ended so.
+/// The printed text of what a replay left.
 pub(crate) fn report_of(
     alloc: Global,
     thing: &Option<Text>,
-    journal: &Journal,
-    ending: Ending,
+    replayed: &Replayed,
 ) -> Result<Page, Fault>
-    requires { AllByRecursion IsSoundEntry journal.now }
-    ensures { IfOk result (λ page. page ≡ report thing.now (reverse journal.now) ending) }
+    requires sound { AllByRecursion IsSoundEntry replayed.now.journal }
+    requires messages { replayed.now.messages ≡ projections.messages_of 0 (reverse replayed.now.journal) }
+    ensures { IfOk result (λ page. page ≡ report thing.now (reverse replayed.now.journal) replayed.now.ending) }
 {
     let mut page = Page::new(alloc);
-    write_journal(&mut page, journal.as_slice())?;
-    write_task_line(&mut page, journal.as_slice())?;
-    write_kinds_line(&mut page, thing, journal.as_slice())?;
-    write_last_line(&mut page, ending)?;
+    let journal = replayed.journal.as_slice();
+    write_journal(&mut page, journal)?;
+    write_task_line(&mut page, journal, replayed.messages)?;
+    write_kinds_line(&mut page, thing, journal)?;
+    write_last_line(&mut page, replayed.ending)?;
     Ok(page)
 }
 
@@ -47,22 +47,21 @@ fn write_journal<O: Sink>(out: &mut O, journal: &[Entry]) -> Result<(), Fault>
 }
 
 /// How many commands the task sent, how many completions it got and how many messages.
-fn write_task_line<O: Sink>(out: &mut O, journal: &[Entry]) -> Result<(), Fault>
+fn write_task_line<O: Sink>(out: &mut O, journal: &[Entry], messages: u128) -> Result<(), Fault>
+    requires { messages ≡ projections.messages_of 0 (reverse journal.now) }
     ensures text { Writes (O.written out.old) (O.written out.new) result (task_line 0 (reverse journal.now)) }
     ensures cause { Counted (IsErrOf result Fault.Failed) (O.faults out.old) (O.faults out.new) }
 {
-    let sent = commands_in(journal);
-    let got = completed_in(journal);
-    let messages = messages_in(journal);
+    let tally = tally_of(journal);
     write_parts(
         out,
         &[
             Part::Plain(b"task "),
             Part::Number(0),
             Part::Plain(b" sent "),
-            Part::Total(sent),
+            Part::Total(tally.sent),
             Part::Plain(b" got "),
-            Part::Total(got),
+            Part::Total(tally.got),
             Part::Plain(b" messages "),
             Part::Total(messages),
             Part::Plain(b"\n"),
@@ -119,15 +118,27 @@ fn write_last_line<O: Sink>(out: &mut O, ending: Ending) -> Result<(), Fault>
     )
 }
 
-#[tactic(auto, using(crate::proofs::Tallies::commands_on, crate::proofs::Tallies::commands_all))]
-fn commands_in(journal: &[Entry]) -> u128
-    ensures { result ≡ projections.commands_of 0 (reverse journal.now) }
+/// What a journal has of its task.
+#[derive(Clone, Copy)]
+struct Tally {
+    /// Commands that the agent took.
+    sent: u128,
+    /// Completions.
+    got: u128,
+}
+
+#[tactic(auto, using(crate::proofs::Tallies::commands_on, crate::proofs::Tallies::commands_all, crate::proofs::Tallies::completed_on, crate::proofs::Tallies::completed_all))]
+fn tally_of(journal: &[Entry]) -> Tally
+    ensures sent { result.sent ≡ projections.commands_of 0 (reverse journal.now) }
+    ensures got { result.got ≡ projections.completed_of 0 (reverse journal.now) }
 {
-    let mut total: u128 = 0;
+    let mut sent: u128 = 0;
+    let mut got: u128 = 0;
     for entry in journal {
-        total += u128::from(commands_by(&entry.cause));
+        sent += u128::from(commands_by(&entry.cause));
+        got += dones_in(entry.effects.as_slice()) as u128;
     }
-    total
+    Tally { sent, got }
 }
 
 /// 1 for a Take of the task that isn't its Leave.
@@ -159,17 +170,6 @@ fn commands_by(cause: &Cause) -> u8
     }
 }
 
-#[tactic(auto, using(crate::proofs::Tallies::completed_on, crate::proofs::Tallies::completed_all))]
-fn completed_in(journal: &[Entry]) -> u128
-    ensures { result ≡ projections.completed_of 0 (reverse journal.now) }
-{
-    let mut total: u128 = 0;
-    for entry in journal {
-        total += dones_in(entry.effects.as_slice()) as u128;
-    }
-    total
-}
-
 fn dones_in(effects: &[Effect]) -> usize
     ensures value { result ≡ count_by (projections.is_done 0) effects.now }
     ensures small { result < 2 ^ 64 }
@@ -190,41 +190,6 @@ fn is_done(effect: &Effect) -> bool
         Effect::Done { task, .. } => *task == 0,
         Effect::Send { .. } => false,
         Effect::Pass { .. } => false,
-        Effect::Closed { .. } => false,
-    }
-}
-
-#[tactic(auto, using(crate::proofs::Tallies::messages_on, crate::proofs::Tallies::messages_all))]
-fn messages_in(journal: &[Entry]) -> u128
-    ensures { result ≡ projections.messages_of 0 (reverse journal.now) }
-{
-    let mut total: u128 = 0;
-    for entry in journal {
-        total += passes_in(entry.effects.as_slice()) as u128;
-    }
-    total
-}
-
-fn passes_in(effects: &[Effect]) -> usize
-    ensures value { result ≡ count_by (projections.is_pass 0) effects.now }
-    ensures small { result < 2 ^ 64 }
-{
-    let mut count = 0;
-    for effect in effects {
-        if is_pass(effect) {
-            count += 1;
-        }
-    }
-    count
-}
-
-fn is_pass(effect: &Effect) -> bool
-    ensures { result ≡ projections.is_pass 0 effect.now }
-{
-    match effect {
-        Effect::Pass { task, .. } => *task == 0,
-        Effect::Send { .. } => false,
-        Effect::Done { .. } => false,
         Effect::Closed { .. } => false,
     }
 }

@@ -25,38 +25,38 @@ pub(crate) enum Service {
 
 /// How many of the messages that were passed to a task have topics of this thing's shadows, and of
 /// its jobs.
+#[tactic(auto, using(crate::proofs::Counts::one_more, crate::proofs::Counts::all_counted))]
 pub fn kinds_of(thing: &str, journal: &[Entry], task: u32) -> Kinds
     ensures shadow { result.shadow ≡ kinds.count_passed task (kinds.is_shadow_of thing.now) journal.now }
     ensures jobs { result.jobs ≡ kinds.count_passed task (kinds.is_jobs_of thing.now) journal.now }
 {
-    Kinds {
-        shadow: count_passed(Service::Shadow, thing, journal, task),
-        jobs: count_passed(Service::Jobs, thing, journal, task),
-    }
-}
-
-#[tactic(auto, using(crate::proofs::Counts::one_more, crate::proofs::Counts::all_counted))]
-fn count_passed(service: Service, thing: &str, journal: &[Entry], task: u32) -> u128
-    ensures { result ≡ kinds.count_passed task (is_of service thing.now) journal.now }
-{
-    let mut count: u128 = 0;
+    let mut shadow: u128 = 0;
+    let mut jobs: u128 = 0;
     for entry in journal {
-        count += count_in(service, thing, entry.effects.as_slice(), task) as u128;
+        let here = kinds_in(thing, entry.effects.as_slice(), task);
+        shadow += here.shadow;
+        jobs += here.jobs;
     }
-    count
+    Kinds { shadow, jobs }
 }
 
-fn count_in(service: Service, thing: &str, effects: &[Effect], task: u32) -> usize
-    ensures count { result ≡ count_by (kinds.passes task (is_of service thing.now)) effects.now }
-    ensures small { result < 2 ^ 64 }
+/// The same of one entry's effects.
+fn kinds_in(thing: &str, effects: &[Effect], task: u32) -> Kinds
+    ensures shadow { result.shadow ≡ count_by (kinds.passes task (kinds.is_shadow_of thing.now)) effects.now }
+    ensures jobs { result.jobs ≡ count_by (kinds.passes task (kinds.is_jobs_of thing.now)) effects.now }
+    ensures small { (result.shadow < 2 ^ 64) × (result.jobs < 2 ^ 64) }
 {
-    let mut count = 0;
+    let mut shadow: u128 = 0;
+    let mut jobs: u128 = 0;
     for effect in effects {
-        if passes(service, thing, effect, task) {
-            count += 1;
+        if passes(Service::Shadow, thing, effect, task) {
+            shadow += 1;
+        }
+        if passes(Service::Jobs, thing, effect, task) {
+            jobs += 1;
         }
     }
-    count
+    Kinds { shadow, jobs }
 }
 
 /// Whether a message on a topic of this service was passed to the task.

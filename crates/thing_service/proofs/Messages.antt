@@ -1,8 +1,9 @@
 -- Each answer is a topic's name and a payload that is short.
 use Rattle.std.proofs.Common.{◌≡◌, ℕ, zero, suc, ◌≤◌, ◌*◌, Bool, true, false, cond, List, [], ◌∷◌, length, map, take, drop, find, Option, Some, None, Result, Ok, Err, IfSome, refl, arith}
-use Rattle.std.specs.Prelude.{◌||◌, ◌==◌, nat_le, codes}
-use Rattle.std.specs.List.{list_all, list_any, AllByRecursion}
-use Rattle.std.proofs.lemmas.Bool.{and_parts, eqb-true, leb-true}
+use Rattle.std.specs.Prelude.{◌&&◌, nat_le, codes}
+use Rattle.std.specs.Int.{is_power_of_two}
+use Rattle.std.specs.List.{AllByRecursion}
+use Rattle.std.proofs.lemmas.Bool.{and_parts, leb-true}
 use Rattle.thing_topics.specs.Classes.{is_thing, is_job, is_stream}
 use Rattle.topic_filter.specs.Texts.{is_name}
 use Rattle.stream_blocks.specs.Reading.{Asked, request_of}
@@ -25,20 +26,10 @@ update_messages thing offers name e f = if_known (is_known offers name) (_, code
 
 -- ---- Blocks
 
-either : (b c : Bool) (C : Type 0) → (b || c) ≡ true → (b ≡ true → C) → (c ≡ true → C) → C
-either true c C e f g = f refl
-either false c C e f g = g e
-
-among : (size : ℕ) (sizes : List ℕ) → list_all (λ n. nat_le n 65536) sizes ≡ true → list_any (λ other. size == other) sizes ≡ true → size ≤ 65536
-among size [] all e = absurd cc
-among size (n ∷ sizes) all e =
-    let two = and_parts (nat_le n 65536) (list_all (λ m. nat_le m 65536) sizes) all in
-    either (size == n) (list_any (λ other. size == other) sizes) (size ≤ 65536) e
-    (λ is. omega (arith, eqb-true size n is, leb-true n 65536 two.0))
-    (among size sizes two.1)
-
 small : (size : ℕ) → is_block_size size ≡ true → size ≤ 65536
-small size e = among size (256 ∷ 512 ∷ 1024 ∷ 2048 ∷ 4096 ∷ 8192 ∷ 16384 ∷ 32768 ∷ 65536 ∷ []) refl e
+small size e =
+    let within = (and_parts (nat_le 256 size && nat_le size 65536) (is_power_of_two size) e).0 in
+    leb-true size 65536 (and_parts (nat_le 256 size) (nat_le size 65536) within).1
 
 of_offer : (asked : Asked) (offer : Option Offer) → asked.1 ≤ 65536 → IfSome (ask_of asked offer) (λ ask. ask.size ≤ 65536)
 of_offer asked None few = tt

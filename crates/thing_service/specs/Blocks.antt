@@ -1,7 +1,7 @@
 -- The blocks of an image that a request names.
-use Rattle.std.specs.Prelude.{ℕ, suc, ◌*◌, ◌-◌, Bool, ◌==◌, nat_lt, List, [], ◌∷◌, ◌++◌, length, take, drop, filter, Option, Some, None, Result, Ok, Err, find, if◌then◌else◌}
-use Rattle.std.specs.Int.{div_ceil}
-use Rattle.std.specs.List.{list_any, flat_map}
+use Rattle.std.specs.Prelude.{ℕ, suc, ◌*◌, ◌-◌, Bool, ◌&&◌, nat_lt, nat_le, List, [], ◌∷◌, ◌++◌, length, take, drop, filter, Option, Some, None, Result, Ok, Err, find, if◌then◌else◌}
+use Rattle.std.specs.Int.{div_ceil, is_power_of_two}
+use Rattle.std.specs.List.{flat_map}
 use Rattle.stream_blocks.specs.Reading.{Asked, request_of}
 use Rattle.stream_blocks.specs.Sets.{bits}
 use Rattle.stream_blocks.specs.Spelling as spelling
@@ -12,7 +12,7 @@ use Rattle.thing_service.specs.Offers.{is_file_of}
 
 -- a power of two from 256 to 65,536
 abbrev pub is_block_size : ℕ → Bool
-is_block_size size = list_any (λ other. size == other) (256 ∷ 512 ∷ 1024 ∷ 2048 ∷ 4096 ∷ 8192 ∷ 16384 ∷ 32768 ∷ 65536 ∷ [])
+is_block_size size = nat_le 256 size && nat_le size 65536 && is_power_of_two size
 
 -- the places of the flags that are set, of which the first flag stands for place `at`
 abbrev pub named : ℕ → List Bool → List ℕ

@@ -54,10 +54,7 @@ fn asked<'a>(offers: &'a [Offer], stream: &str, payload: &[u8]) -> Option<(&'a O
 fn is_block_size(size: u32) -> bool
     ensures { result ≡ naming.is_block_size size }
 {
-    matches!(
-        size,
-        256 | 512 | 1024 | 2048 | 4096 | 8192 | 16384 | 32768 | 65536
-    )
+    256 <= size && size <= 65_536 && size.is_power_of_two()
 }
 
 fn file_of<'a>(offers: &'a [Offer], stream: &str, file: u32) -> Option<&'a Offer>

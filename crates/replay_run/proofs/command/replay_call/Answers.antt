@@ -1,6 +1,6 @@
 use Rattle.std.proofs.Common.{ap, ◌∙◌, subst}
 use Rattle.replay_agent.specs.Runs.{sizes_of}
-use Rattle.replay_run.specs.Answers.{Answers, answer}
+use Rattle.command_answers.specs.Answers.{Answers, answer}
 use Rattle.replay_run.proofs.Headline.{prints_history}
 use Rattle.replay_run.proofs.command.replay_call.Goals as goal
 
