@@ -149,24 +149,11 @@ fn commands_by(cause: &Cause) -> u8
     match cause {
         Cause::Take {
             task: 0,
-            request,
+            request: Request::Leave,
             ..
-        } => match request {
-            Request::Leave => 0,
-            Request::Publish { .. } => 1,
-            Request::Subscribe { .. } => 1,
-            Request::Unsubscribe { .. } => 1,
-            Request::Ping => 1,
-            Request::Disconnect => 1,
-            Request::Terminate => 1,
-        },
-        Cause::Take { .. } => 0,
-        Cause::Opened => 0,
-        Cause::Arrived { .. } => 0,
-        Cause::Broke { .. } => 0,
-        Cause::Tick => 0,
-        Cause::GaveUp => 0,
-        Cause::Finish => 0,
+        } => 0,
+        Cause::Take { task: 0, .. } => 1,
+        _ => 0,
     }
 }
 
@@ -188,8 +175,6 @@ fn is_done(effect: &Effect) -> bool
 {
     match effect {
         Effect::Done { task, .. } => *task == 0,
-        Effect::Send { .. } => false,
-        Effect::Pass { .. } => false,
-        Effect::Closed { .. } => false,
+        _ => false,
     }
 }

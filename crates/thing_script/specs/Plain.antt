@@ -7,22 +7,18 @@ use Rattle.replay_rounds.specs.Asked.{IsValidStep}
 
 -- it speaks of no shadow and of no job
 abbrev pub IsPlainStep : Step → Type 0
-IsPlainStep (steps.Do request) = Unit {0}
 IsPlainStep (steps.Shadow op name payload) = ⊥
 IsPlainStep (steps.Jobs op job payload) = ⊥
-IsPlainStep steps.Wait = Unit {0}
-IsPlainStep (steps.Listen count) = Unit {0}
+IsPlainStep _ = Unit {0}
 
 abbrev pub IsPlainLine : Line → Type 0
 IsPlainLine line = IsPlainStep line.step
 
 -- where it speaks of a shadow or a job, its payload has at most 131,072 bytes
 abbrev pub IsShortStep : Step → Type 0
-IsShortStep (steps.Do request) = Unit {0}
 IsShortStep (steps.Shadow op name payload) = length payload ≤ 131072
 IsShortStep (steps.Jobs op job payload) = length payload ≤ 131072
-IsShortStep steps.Wait = Unit {0}
-IsShortStep (steps.Listen count) = Unit {0}
+IsShortStep _ = Unit {0}
 
 abbrev pub IsShortLine : Line → Type 0
 IsShortLine line = IsShortStep line.step

@@ -66,9 +66,7 @@ fn passes(service: Service, thing: &str, effect: &Effect, task: u32) -> bool
     match effect {
         Effect::Pass { task: to, message } => task == *to
             && is_of(service, thing, message.topic.as_str()),
-        Effect::Send { .. } => false,
-        Effect::Done { .. } => false,
-        Effect::Closed { .. } => false,
+        _ => false,
     }
 }
 
