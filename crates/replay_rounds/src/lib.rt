@@ -4,5 +4,6 @@
 mod laws;
 
 pub use laws::{
-    replays_are_histories, replays_are_legal, replays_end, replays_hear_their_tape, replays_take_all,
+    replays_are_histories, replays_are_legal, replays_end, replays_hear_their_tape,
+    replays_take_all,
 };
