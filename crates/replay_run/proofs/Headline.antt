@@ -10,6 +10,7 @@ use Rattle.command_words.specs.Setups.{setup_of}
 use Rattle.replay_rounds.specs.Asked.{IsValidLine}
 use Rattle.replay_rounds.specs.Bound.{finished}
 use Rattle.replay_rounds.specs.Rounds.{begun}
+use Rattle.replay_rounds.proofs.Fronts.{replays_hear_their_tape}
 use Rattle.replay_rounds.proofs.Histories.{replays_are_histories}
 use Rattle.command_answers.specs.Answers.{Answers}
 use Rattle.replay_run.specs.Answers.{answer_by, replay_answer}
@@ -23,4 +24,9 @@ prints_history words sizes script items result old new answers one valid memory 
     let w = finished (begun s sizes words.tick script.lines items) in
     let h = replays_are_histories s sizes words.tick script items one valid gives in
     let told : Answers result old new (answer_by words.thing w.past (Some h.ending)) = subst (λ ending. Answers result old new (answer_by words.thing w.past ending)) h.ended answers in
-    record { history = h; printed = told.whole memory sink; status_is = told.status memory sink }
+    record {
+      history = h;
+      heard = replays_hear_their_tape s sizes words.tick script.lines items;
+      printed = told.whole memory sink;
+      status_is = told.status memory sink;
+    }
