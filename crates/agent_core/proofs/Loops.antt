@@ -1,31 +1,14 @@
 -- One more of those that were gone through.
-use Rattle.std.proofs.Common.{sym, ◌∙◌, ◌≡◌, ◌≤◌, ◌+◌, ℕ, Bool, true, false, List, [], ◌∷◌, ◌++◌, length, take, Some, None, refl, ap, inl, inr, arith}
+use Rattle.std.proofs.Common.{sym, ◌∙◌, ◌≡◌, ◌≤◌, ◌+◌, ℕ, Bool, true, false, List, [], ◌∷◌, ◌++◌, length, take, Some, None, refl, ap}
 use native.Mathlib.Numerals.{unary_clauses}
 use Rattle.std.specs.Prelude.{if◌then◌else◌}
 use Rattle.std.specs.List.{flat_map, slice_get}
-use Rattle.std.proofs.lemmas.List.{take_more, take_all, append_assoc, append-nil}
+use Rattle.std.proofs.lemmas.List.{take_all, append_assoc, append-nil}
 use Rattle.std.proofs.lemmas.Grind.{flat_map-append}
 use Rattle.agent_journal.specs.declared.effect.Effect.{Effect}
 use Rattle.agent_journal.specs.declared.effect.Effect.TheVariants as f
 use Rattle.agent_table.specs.Effects.{closed_below}
-use Rattle.std.proofs.lemmas.Option.{slice_get_cases, slice_get_within, get_or_from_slice_get}
-
-pub taken_more : {X : Type 0} (xs : List X) (k : ℕ) (x : X) → slice_get xs k ≡ Some x → take (k + 1) xs ≡ take k xs ++ x ∷ []
-taken_more xs k x at = take_more xs k x (slice_get_within xs k x at) ∙ ap (λ y. take k xs ++ y ∷ []) (get_or_from_slice_get xs k x x at)
-
-some≢none : {X : Type 0} (x : X) → Some x ≡ None → ⊥
-some≢none x e = cc
-
-past_end : {X : Type 0} (xs : List X) (k : ℕ) → slice_get xs k ≡ None → length xs ≤ k
-past_end xs k none = elim (slice_get_cases xs k).1 [
-  | inl h ↦ absurd (some≢none h.0 (sym h.2 ∙ none))
-  | inr h ↦ h.0
-]
-
-pub taken_none : {X : Type 0} (xs : List X) (k : ℕ) → slice_get xs k ≡ None → take k xs ≡ take (k + 1) xs
-taken_none xs k none =
-    let past = past_end xs k none in
-    take_all k xs past ∙ sym (take_all (k + 1) xs (omega (arith, past)))
+use Rattle.session_resume.proofs.Loops.{taken_more, taken_none}
 
 -- ---- What each element gives
 

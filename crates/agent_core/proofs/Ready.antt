@@ -2,7 +2,7 @@
 use Rattle.std.proofs.Common.{◌≡◌, ℕ, ◌+◌, ◌<◌, ◌≤◌, Bool, true, false, not, List, [], ◌∷◌, ◌++◌, length, map, Option, Some, None, is_some, refl, ap, sym, ◌∙◌, subst, arith}
 use Rattle.std.specs.Prelude.{◌&&◌, ◌||◌, ◌==◌, nat_le, nat_lt, filter, find, if◌then◌else◌, slice_set}
 use Rattle.std.specs.List.{list_any, list_all}
-use Rattle.std.proofs.lemmas.Bool.{ltb-true}
+use Rattle.std.proofs.lemmas.Bool.{ltb-true, and_parts}
 use Rattle.std.proofs.lemmas.List.{length-append, length-map, length-set}
 use Rattle.agent_journal.specs.declared.entry.Cause.{Cause}
 use Rattle.agent_journal.specs.declared.entry.Cause.TheVariants as c
@@ -46,20 +46,15 @@ not_or : (a b : Bool) → (a || b) ≡ false → a ≡ false
 not_or true b e = absurd (cc e)
 not_or false b e = refl
 
-both : (a b : Bool) → (a && b) ≡ true → (a ≡ true) × (b ≡ true)
-both true true e = (refl, refl)
-both true false e = absurd (cc e)
-both false b e = absurd (cc e)
-
 -- a Take with a row is of a task that there is, and its request is valid
 taken : (k : Kept) (task seq : ℕ) (request : Request) (row : Row) → take_row k.setup k.sizes (readings_in k) task seq request ≡ Some row → (task < k.setup.tasks) × (is_valid request ≡ true)
 unfolding take_row may_take
 taken k task seq request row e =
     let r = readings_in k in
     let may = (some_when (nat_lt task k.setup.tasks && not (r.left task) && (seq == r.takes task) && is_valid request) (take_in k.setup k.sizes r task seq request r.phase) (ap is_some e)).0 in
-    let four = both (nat_lt task k.setup.tasks && not (r.left task) && (seq == r.takes task)) (is_valid request) may in
-    let three = both (nat_lt task k.setup.tasks && not (r.left task)) (seq == r.takes task) four.0 in
-    let two = both (nat_lt task k.setup.tasks) (not (r.left task)) three.0 in
+    let four = and_parts (nat_lt task k.setup.tasks && not (r.left task) && (seq == r.takes task)) (is_valid request) may in
+    let three = and_parts (nat_lt task k.setup.tasks && not (r.left task)) (seq == r.takes task) four.0 in
+    let two = and_parts (nat_lt task k.setup.tasks) (not (r.left task)) three.0 in
     (ltb-true task k.setup.tasks two.0, four.1)
 
 used_up : (k : Kept) → k.phase ≡ Up → fresh (readings_in k).last_drawn (map (λ command. command.id) (readings_in k).pending ++ map (λ renewal. renewal.id) (readings_in k).renewals) ≡ fresh k.last_drawn (used_in k)
@@ -139,13 +134,13 @@ room_up k task asks up few = go k.phase up few
 
 valid_asks : (asks : List Ask) → is_valid (requests.Subscribe asks) ≡ true → are_filters asks ≡ true
 unfolding is_valid
-valid_asks asks valid = all asks (both (is_few (length asks)) (list_all (λ ask. is_wanted ask.filter) asks) valid).1
+valid_asks asks valid = all asks (and_parts (is_few (length asks)) (list_all (λ ask. is_wanted ask.filter) asks) valid).1
   where
     all : (asks : List Ask) → list_all (λ ask. is_wanted ask.filter) asks ≡ true → are_filters asks ≡ true
     all [] h = refl
     all (ask ∷ asks) h =
-        let parts = both (is_wanted ask.filter) (list_all (λ ask. is_wanted ask.filter) asks) h in
-        rw ((both (is_short ask.filter) (is_filter ask.filter) parts.0).1) (all asks parts.1)
+        let parts = and_parts (is_wanted ask.filter) (list_all (λ ask. is_wanted ask.filter) asks) h in
+        rw ((and_parts (is_short ask.filter) (is_filter ask.filter) parts.0).1) (all asks parts.1)
 
 sent_ask : (k : Kept) (task seq : ℕ) (request : Request) (id : Option ℕ) (opened : Option Pending) → is_valid request ≡ true → IsSentWell k.phase k.sizes (readings_in k) task request id
     → as_list opened ≡ opened_by task seq request id → CanAskFor k.sizes.routes k.routing task request (as_list opened)

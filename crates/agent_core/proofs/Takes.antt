@@ -22,7 +22,7 @@ use Rattle.agent_table.specs.Readings.{Readings}
 use Rattle.agent_table.specs.Rows.{Row, to}
 use Rattle.agent_table.specs.Sizes.{Sizes}
 use Rattle.agent_table.specs.Takes.{take_row, take_in, may_take, up_row, off_row, publish_row, subscribe_row, unsubscribe_row, disconnect_row, at_once, routes_with, other_has, own_filters}
-use Rattle.agent_core.proofs.Loops.{taken_more}
+use Rattle.session_resume.proofs.Loops.{taken_more}
 use Rattle.agent_core.proofs.Breaks.{is_when, some_when}
 
 module _ (s : Setup) (l : Sizes) (r : Readings) (task seq : ℕ) where

@@ -1,7 +1,7 @@
 -- How often an entry completes a command, and how many commands were taken.
 use Rattle.std.proofs.Common.{◌≡◌, ℕ, ◌+◌, ◌≤◌, Bool, true, false, List, [], ◌∷◌, refl, sym, ap, ◌∙◌, subst, arith}
-use Rattle.std.specs.Prelude.{◌&&◌, ◌||◌, ◌==◌, not, nat_lt, if◌then◌else◌}
-use Rattle.std.proofs.lemmas.Bool.{cases_lt, lt-ltb, le-ltb, eq-eqb, ne_eqb, cases_eq}
+use Rattle.std.specs.Prelude.{◌&&◌, ◌==◌, not, nat_lt, if◌then◌else◌}
+use Rattle.std.proofs.lemmas.Bool.{cases_lt, lt-ltb, le-ltb, eq-eqb, ne_eqb, cases_eq, or_parts}
 use mathlib.Core.Logic.{inl, inr}
 use Rattle.agent_journal.specs.declared.request.Request.{Request}
 use Rattle.agent_journal.specs.declared.entry.Cause.{Cause}
@@ -39,10 +39,6 @@ one_below q n = elim (cases_lt q n) [
   ]
 ]
 
-neither : (a b : Bool) → (a || b) ≡ false → (a ≡ false) × (b ≡ false)
-neither true b e = absurd (cc e)
-neither false b e = (refl, e)
-
 by_take : (mine leaves : Bool) (n m : ℕ) → (mine && leaves) ≡ false → n ≡ m → (if mine then n + 1 else n) ≡ m + (if mine && not leaves then 1 else 0)
 by_take true true n m stays e = absurd (cc stays)
 by_take true false n m stays e = ap (λ k. k + 1) e
@@ -61,7 +57,7 @@ by_cause t c.Finish n m stays e = omega (arith, e)
 pub all_commands : (t : ℕ) (past : List Entry) → has_left t past ≡ false → takes_of t past ≡ commands_of t past
 all_commands t [] stays = refl
 all_commands t (e ∷ past) stays =
-    let parts = neither (leaves_by t e.cause) (has_left t past) stays in
+    let parts = or_parts (leaves_by t e.cause) (has_left t past) stays in
     by_cause t e.cause (takes_of t past) (commands_of t past) parts.0 (all_commands t past parts.1)
 
 pub none_more : (q n : ℕ) → below q n + 0 ≡ below q (n + 0)

@@ -3,7 +3,7 @@ use Rattle.std.proofs.Common.{◌≡◌, ℕ, zero, suc, ◌*◌, ◌<◌, ◌�
 use Rattle.std.specs.Prelude.{◌&&◌, ◌||◌, ◌==◌, ◌/◌, not, nat_lt, nat_le}
 use Rattle.std.specs.List.{list_all, list_any, flat_map, onto_first, AllByRecursion}
 use Rattle.std.specs.Str.{is_utf8, bytes_eq, IsAscii}
-use Rattle.std.proofs.lemmas.Bool.{cases_Bool, le-leb, leb-true, lt-ltb, ne_eqb, eqb-true, and_parts, and_from}
+use Rattle.std.proofs.lemmas.Bool.{cases_Bool, le-leb, leb-true, lt-ltb, ne_eqb, eqb-true, and_parts, and_from, or_parts}
 use Rattle.std.proofs.lemmas.Str.{is_utf8-from_IsUtf8, IsUtf8-from_ascii}
 use mathlib.Core.Logic.{inl, inr}
 use Rattle.std.proofs.lemmas.Slice.Eq.{bytes_eq-Decides}
@@ -72,17 +72,13 @@ connect_sound s clean client =
 abbrev IsFree : List ℕ → Type 0
 IsFree text = list_any (λ b. b == 0) text ≡ false
 
-free_parts : (b : Bool) (rest : Bool) → (b || rest) ≡ false → (b ≡ false) × (rest ≡ false)
-free_parts true rest e = absurd (cc e)
-free_parts false rest e = (refl, e)
-
 free_by : (slash : Bool) (b : ℕ) (text : List ℕ) (parts : List (List ℕ)) → (b == 47) ≡ slash → 0 < length parts → (AllByRecursion IsFree parts → IsFree text) → AllByRecursion IsFree (cond slash ([] ∷ parts) (onto_first b parts)) → IsFree (b ∷ text)
 free_by true b text parts e some others all =
     let b_is : b ≡ 47 = eqb-true b 47 e in
     rw b_is (others all.1)
 free_by false b text [] e some others all = absurd (omega (arith, some))
 free_by false b text (level ∷ parts) e some others all =
-    let two = free_parts (b == 0) (list_any (λ c. c == 0) level) all.0 in
+    let two = or_parts (b == 0) (list_any (λ c. c == 0) level) all.0 in
     rw two.0 (others (two.1, all.1))
 
 -- a text whose levels have no byte 0

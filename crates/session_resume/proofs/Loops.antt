@@ -11,7 +11,7 @@ use Rattle.agent_table.specs.Deliveries.{is_among}
 use Rattle.agent_table.specs.Effects.{again_by}
 use Rattle.session_resume.specs.Resent.{release, again}
 
-taken_more : {X : Type 0} (xs : List X) (k : ℕ) (x : X) → slice_get xs k ≡ Some x → take (k + 1) xs ≡ take k xs ++ x ∷ []
+pub taken_more : {X : Type 0} (xs : List X) (k : ℕ) (x : X) → slice_get xs k ≡ Some x → take (k + 1) xs ≡ take k xs ++ x ∷ []
 taken_more xs k x at = take_more xs k x (slice_get_within xs k x at) ∙ ap (λ y. take k xs ++ y ∷ []) (get_or_from_slice_get xs k x x at)
 
 some≢none : {X : Type 0} (x : X) → Some x ≡ None → ⊥
@@ -23,7 +23,7 @@ past_end xs k none = elim (slice_get_cases xs k).1 [
   | inr h ↦ h.0
 ]
 
-taken_none : {X : Type 0} (xs : List X) (k : ℕ) → slice_get xs k ≡ None → take k xs ≡ take (k + 1) xs
+pub taken_none : {X : Type 0} (xs : List X) (k : ℕ) → slice_get xs k ≡ None → take k xs ≡ take (k + 1) xs
 taken_none xs k none =
     let past = past_end xs k none in
     take_all k xs past ∙ sym (take_all (k + 1) xs (omega (arith, past)))

@@ -2,7 +2,7 @@ use Rattle.std.proofs.Common.{rules, sym, ap, ◌∙◌}
 use Rattle.std.specs.Option.{option_copied}
 use Rattle.agent_table.specs.Takes.{own_filters}
 use Rattle.agent_core.specs.Kept.{readings_in}
-use Rattle.agent_core.proofs.Loops.{taken_none}
+use Rattle.session_resume.proofs.Loops.{taken_none}
 use Rattle.agent_core.proofs.Takes.{own_more, own_skips}
 use Rattle.agent_core.proofs.agent.Core.own_filters.Goals.{in-Some+then-not-other_has+in_ok-copy+in_ok-push, in-Some+else-not-other_has, in_default}
 use Rattle.agent_core.proofs.agent.Core.own_filters.Goals as goal
