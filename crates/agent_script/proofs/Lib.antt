@@ -1,2 +1,3 @@
 pub mod FewLines
 pub mod ScriptLoops
+pub mod ReadLines

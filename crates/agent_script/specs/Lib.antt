@@ -2,3 +2,4 @@ pub mod Requests
 pub mod Steps
 pub mod Scripts
 pub mod ScriptReading
+pub mod Laws

@@ -1,5 +1,4 @@
 pub mod Tapes
 pub mod Plays
 pub mod Pairs
-pub mod Readings
 pub mod ReadTapes

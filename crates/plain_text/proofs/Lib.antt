@@ -2,3 +2,4 @@ pub mod Cuts
 pub mod FirstLines
 pub mod Unescaped
 pub mod Escaping
+pub mod WhatIsRead
