@@ -16,6 +16,3 @@ mod sends;
 pub use agent::Core;
 pub use agent_journal::{Phase, Setup};
 pub use laws::{rows_are_same, stands_at_first, stands_behind};
-
-#[cfg(test)]
-mod tests;

@@ -1,5 +1,4 @@
-//! What no clause says: histories in bytes, worked out by hand from the standard and from the project's own
-//! rules.
+//! Each step of a history with its effects, and where a history must end.
 
 mod clocks;
 mod connections;

@@ -1,7 +1,7 @@
 //! An agent of the greatest sizes, by its clock.
 
 use super::histories::enters;
-use crate::{Core, Phase};
+use agent_core::{Core, Phase};
 use agent_journal::{Cause, Setup, Why};
 use list_types::Text;
 use mqtt_packet::Packet;

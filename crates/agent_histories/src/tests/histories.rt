@@ -2,7 +2,7 @@
 //! `take` stand the task, the number of the request and the request. What has no row has the effect `no row`.
 
 use super::texts::{read, write_effects};
-use crate::Core;
+use agent_core::Core;
 use agent_journal::{Cause, Entry, Request, Setup, Why};
 use list_types::{Blob, Seq, Text};
 use mqtt_packet::{Ask, Packet, Qos};
