@@ -4,7 +4,5 @@ pub mod Readings
 pub mod Endings
 pub mod Projections
 pub mod Wires
-pub mod Texts
-pub mod Scripts
-pub mod Parts
+pub mod Sound
 pub mod Worked

@@ -8,7 +8,6 @@ use Rattle.agent_journal.specs.declared.entry.Cause.TheVariants as c
 use Rattle.agent_journal.specs.declared.entry.Entry.{Entry}
 use Rattle.agent_journal.specs.declared.effect.Effect.TheVariants as f
 use Rattle.agent_journal.specs.declared.setup.Setup.{Setup}
-use Rattle.agent_journal.specs.Texts.{journal_text}
 
 abbrev pub setup : Setup
 setup = record { to = []; client = codes "dev"; keep_alive = 60; reopen = 5; wipe = false; tasks = 1 }
@@ -22,11 +21,3 @@ journal =
     ∷ record { at = 0; cause = c.Take 0 1 requests.Leave; effects = [] }
     ∷ record { at = 0; cause = c.Finish; effects = f.Send p.Disconnect ∷ [] }
     ∷ []
-
-abbrev pub text : List ℕ
-text =
-    codes
-    "@0 opened\n  send 100f00044d5154540400003c0003646576\n@0 arrived 20020000\n@0 take 0 0 publish 0 a/b 6869\n  send 30070003612f626869\n  done 0 0 done\n@0 take 0 1 leave\n@0 finish\n  send e000\n"
-
-abbrev pub ExampleIsPrinted : Type 0
-ExampleIsPrinted = journal_text journal ≡ text

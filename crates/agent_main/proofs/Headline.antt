@@ -7,8 +7,8 @@ use Rattle.plain_text.specs.Lines.{lines_of}
 use Rattle.broker_tape.specs.declared.tape.Item.{Item}
 use Rattle.broker_tape.specs.Tape.{tape_in}
 use Rattle.broker_tape.proofs.ReadTapes.{read_tape_gives}
-use Rattle.agent_journal.specs.declared.script.Line.{Line}
-use Rattle.agent_journal.specs.declared.script.Script.{Script}
+use Rattle.agent_script.specs.declared.script.Line.{Line}
+use Rattle.agent_script.specs.declared.script.Script.{Script}
 use Rattle.agent_script.specs.Scripts.{script_of}
 use Rattle.command_answers.specs.Answers.{Answers}
 use Rattle.command_words.specs.Commands.{words_of}

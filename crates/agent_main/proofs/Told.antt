@@ -7,7 +7,7 @@ use Rattle.std.proofs.lemmas.Bool.{lt-ltb, le-ltb, cases_lt, ne_eqb}
 use mathlib.Core.Logic.{inl, inr}
 use Rattle.plain_text.specs.Lines.{lines_of}
 use Rattle.broker_tape.specs.declared.tape.Item.{Item}
-use Rattle.agent_journal.specs.declared.script.Script.{Script}
+use Rattle.agent_script.specs.declared.script.Script.{Script}
 use Rattle.agent_script.specs.Scripts.{script_of}
 use Rattle.command_answers.specs.Answers.{Answers}
 use Rattle.command_words.specs.declared.words.RunWords.{RunWords}

@@ -3,8 +3,8 @@ use Rattle.std.specs.Prelude.{ℕ, ◌+◌, ◌-◌, ◌==◌, List, [], ◌∷�
 use Rattle.plain_text.specs.Lines.{lines_of, is_passed}
 use Rattle.broker_tape.specs.declared.tape.Item.{Item}
 use Rattle.broker_tape.specs.Tape.{tape_in}
-use Rattle.agent_journal.specs.declared.script.Script.{Script}
-use Rattle.agent_journal.specs.Texts.{joined, line_end}
+use Rattle.agent_script.specs.declared.script.Script.{Script}
+use Rattle.journal_text.specs.Texts.{joined, line_end}
 use Rattle.agent_script.specs.Scripts.{script_of}
 use Rattle.agent_table.specs.Sizes.{Sizes}
 use Rattle.command_answers.specs.Answers.{Answer, answer}

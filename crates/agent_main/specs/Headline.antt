@@ -2,7 +2,7 @@
 use Rattle.std.specs.Prelude.{◌≡◌, ◌≢◌, ℕ, List, Option, Ok}
 use Rattle.broker_tape.specs.declared.tape.Item.{Item}
 use Rattle.broker_tape.specs.Tape.{tape_in}
-use Rattle.agent_journal.specs.declared.script.Script.{Script}
+use Rattle.agent_script.specs.declared.script.Script.{Script}
 use Rattle.agent_script.specs.Scripts.{script_of}
 use Rattle.command_words.specs.declared.words.RunWords.{RunWords}
 use Rattle.command_words.specs.Setups.{setup_of}

@@ -19,7 +19,8 @@ ghost use Rattle.agent_main.specs.Answers as answers;
 ghost use Rattle.agent_main.specs.Headline.{HasRun, PrintsReplay};
 
 use crate::lines::{count_lines, first_said};
-use agent_journal::{Part, Script, ScriptFault, write_parts};
+use agent_script::{Script, ScriptFault};
+use journal_text::{Part, write_parts};
 use agent_link::{Fault, Sink, Source, read_all};
 use agent_script::read_script;
 use broker_tape::{Tape, TapeFault, read_tape};

@@ -4,7 +4,7 @@ use Rattle.std.specs.Prelude.{◌==◌}
 use Rattle.std.proofs.lemmas.Bool.{cases_Bool}
 use mathlib.Core.Logic.{inl, inr}
 use Rattle.plain_text.specs.Lines.{lines_of, onto_line, is_passed}
-use Rattle.agent_journal.specs.declared.script.Line.{Line}
+use Rattle.agent_script.specs.declared.script.Line.{Line}
 use Rattle.agent_script.specs.Scripts.{Read, lines_from, line_or_number, is_tape}
 use Rattle.agent_script.specs.Steps.{line_of}
 

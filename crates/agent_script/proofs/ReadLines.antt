@@ -4,7 +4,7 @@ use Rattle.std.specs.Prelude.{nat_le, nat_lt, ◌&&◌, codes}
 use Rattle.std.specs.List.{AllByRecursion}
 use Rattle.std.specs.Str.{bytes_eq}
 use Rattle.std.proofs.lemmas.Bool.{and_parts, leb-true, ltb-true}
-use Rattle.plain_numbers.specs.Numbers.{number_in}
+use Rattle.plain_text.specs.Numbers.{number_in}
 use Rattle.plain_text.specs.Escapes.{text_of}
 use Rattle.plain_text.specs.Lines.{is_passed, lines_of}
 use Rattle.plain_text.specs.Payloads.{payload_of}
@@ -12,8 +12,8 @@ use Rattle.plain_text.specs.Words.{word_at, last_at}
 use Rattle.plain_text.proofs.WhatIsRead.{SomeIs, always, bound, either}
 use Rattle.agent_journal.specs.declared.request.Request.{Request}
 use Rattle.agent_journal.specs.declared.request.Request.TheVariants as requests
-use Rattle.agent_journal.specs.declared.script.Line.{Line}
-use Rattle.agent_journal.specs.declared.script.Script.{Script}
+use Rattle.agent_script.specs.declared.script.Line.{Line}
+use Rattle.agent_script.specs.declared.script.Script.{Script}
 use Rattle.agent_journal.specs.Readings.{is_leave}
 use Rattle.agent_journal.specs.Requests.{is_valid}
 use Rattle.agent_script.specs.Laws.{IsReadStep, IsReadLine, ReadLinesHold}

@@ -2,8 +2,8 @@
 use Rattle.std.proofs.Common.{◌≡◌, ℕ, ◌+◌, ◌≤◌, List, [], ◌∷◌, ◌++◌, length, drop, Option, Some, None, Result, Ok, Err, true, false, refl, sym, ap, ◌∙◌, append_assoc, append-nil}
 use Rattle.std.proofs.lemmas.List.{drop_all}
 use Rattle.plain_text.specs.Lines.{lines_of, is_passed}
-use Rattle.agent_journal.specs.declared.script.Line.{Line}
-use Rattle.agent_journal.specs.declared.script.Script.{Script}
+use Rattle.agent_script.specs.declared.script.Line.{Line}
+use Rattle.agent_script.specs.declared.script.Script.{Script}
 use Rattle.agent_script.specs.Scripts.{Read, lines_from, line_or_number, onto_lines, is_tape, tasks_of, script_from, script_with, script_behind}
 use Rattle.agent_script.specs.Steps.{line_of}
 

@@ -4,10 +4,10 @@ use Rattle.std.specs.Option.{option_map}
 use Rattle.plain_text.specs.Lines.{lines_of}
 use Rattle.plain_text.specs.declared.refusal.Refusal.{Refusal}
 use Rattle.plain_text.specs.declared.refusal.Refusal.TheVariants as refusals
-use Rattle.agent_journal.specs.declared.script.Line.{Line}
-use Rattle.agent_journal.specs.declared.script.Script.{Script}
-use Rattle.agent_journal.specs.declared.script.ScriptFault.{ScriptFault}
-use Rattle.agent_journal.specs.declared.script.ScriptFault.TheVariants as faults
+use Rattle.agent_script.specs.declared.script.Line.{Line}
+use Rattle.agent_script.specs.declared.script.Script.{Script}
+use Rattle.agent_script.specs.declared.script.ScriptFault.{ScriptFault}
+use Rattle.agent_script.specs.declared.script.ScriptFault.TheVariants as faults
 use Rattle.agent_script.specs.Scripts.{script_of, script_with, lines_from}
 
 -- The answer is the script and the place of the lines behind it, and Line exactly where that line is the first bad one. Want

@@ -4,8 +4,8 @@ use Rattle.std.specs.Str.{bytes_eq}
 use Rattle.plain_text.specs.Lines.{is_passed, lines_of}
 use Rattle.plain_text.specs.Reading.{◌>>=◌}
 use Rattle.plain_text.specs.Words.{word_at, last_at}
-use Rattle.agent_journal.specs.declared.script.Line.{Line}
-use Rattle.agent_journal.specs.declared.script.Script.{Script}
+use Rattle.agent_script.specs.declared.script.Line.{Line}
+use Rattle.agent_script.specs.declared.script.Script.{Script}
 use Rattle.agent_script.specs.Steps.{line_of}
 
 -- the lines of a script, and what stands behind its line `tape`

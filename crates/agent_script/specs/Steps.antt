@@ -6,10 +6,10 @@ use Rattle.plain_text.specs.Payloads.{payload_of}
 use Rattle.plain_text.specs.Reading.{◌>>=◌}
 use Rattle.agent_journal.specs.declared.request.Request.{Request}
 use Rattle.agent_journal.specs.declared.request.Request.TheVariants as requests
-use Rattle.agent_journal.specs.declared.script.Line.{Line}
-use Rattle.agent_journal.specs.declared.script.Step.{Step}
-use Rattle.agent_journal.specs.declared.script.Step.TheVariants as steps
-use Rattle.plain_numbers.specs.Numbers.{number_in}
+use Rattle.agent_script.specs.declared.script.Line.{Line}
+use Rattle.agent_script.specs.declared.script.Step.{Step}
+use Rattle.agent_script.specs.declared.script.Step.TheVariants as steps
+use Rattle.plain_text.specs.Numbers.{number_in}
 use Rattle.agent_script.specs.Requests.{publish_of, subscribe_of, unsubscribe_of}
 
 abbrev pub does : Option Request → Option Step

@@ -2,13 +2,18 @@
 #![tactic(auto)]
 
 mod laws;
+mod reading;
 mod requests;
 mod script;
 mod steps;
 
-pub use agent_journal::{Line, Script, ScriptFault, Step};
 pub use laws::read_lines_hold;
-pub use script::read_script;
+use list_types::Seq;
+pub use reading::read_script;
+pub use script::{Line, Script, ScriptFault, Step};
+
+/// The lines of a script, in order.
+pub type Lines = Seq<Line>;
 
 #[cfg(test)]
 mod tests;

@@ -20,7 +20,7 @@ use Rattle.agent_journal.specs.declared.effect.Effect.TheVariants as f
 use Rattle.agent_journal.specs.declared.setup.Setup.{Setup}
 use Rattle.agent_journal.specs.declared.setup.Phase.{Phase}
 use Rattle.agent_journal.specs.declared.setup.Phase.TheVariants.{Down, Opening, Up, Spilled, Off}
-use Rattle.agent_journal.specs.Parts.{IsSoundEffect, IsSoundCause, IsSoundEntry}
+use Rattle.agent_journal.specs.Sound.{IsSoundEffect, IsSoundCause, IsSoundEntry}
 use Rattle.agent_journal.specs.Readings.{Pending, pending_of, has_left, opens, opened_by, sent_id, or_else, command_id, id_at, stays_open}
 use Rattle.agent_journal.specs.Requests.{is_valid, is_few, is_wanted}
 use Rattle.agent_journal.specs.Setups.{is_client}

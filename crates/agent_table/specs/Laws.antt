@@ -14,7 +14,7 @@ use Rattle.agent_journal.specs.declared.effect.Effect.{Effect}
 use Rattle.agent_journal.specs.declared.effect.Effect.TheVariants as f
 use Rattle.agent_journal.specs.declared.entry.Entry.{Entry}
 use Rattle.agent_journal.specs.declared.setup.Setup.{Setup}
-use Rattle.agent_journal.specs.Parts.{IsSoundEntry}
+use Rattle.agent_journal.specs.Sound.{IsSoundEntry}
 use Rattle.agent_journal.specs.Setups.{is_client}
 use Rattle.agent_journal.specs.Projections.{commands_of, completions_of, NoneEarly, CompletesOnce}
 use Rattle.agent_journal.specs.Readings.{Pending, pending_of}

@@ -19,3 +19,4 @@ pub mod Awaiting
 pub mod Worked
 pub mod Laws
 pub mod Promises
+pub mod Endings

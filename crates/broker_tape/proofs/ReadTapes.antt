@@ -5,7 +5,7 @@ use Rattle.std.specs.Option.{option_map}
 use Rattle.std.specs.Str.{bytes_eq}
 use Rattle.hex.specs.Hex.{decode_of}
 use Rattle.hex.specs.declared.error.FromHexError.{FromHexError}
-use Rattle.plain_numbers.specs.Numbers.{number_in}
+use Rattle.plain_text.specs.Numbers.{number_in}
 use Rattle.plain_text.specs.Lines.{is_passed}
 use Rattle.plain_text.specs.Reading.{◌>>=◌}
 use Rattle.plain_text.specs.Payloads.{payload_of, pairs_of, decoded}

@@ -6,7 +6,7 @@ use Rattle.plain_text.specs.Lines.{lines_of, is_passed}
 use Rattle.plain_text.specs.Words.{word_at, last_at}
 use Rattle.plain_text.specs.Payloads.{payload_of}
 use Rattle.plain_text.specs.Reading.{◌>>=◌}
-use Rattle.plain_numbers.specs.Numbers.{number_in}
+use Rattle.plain_text.specs.Numbers.{number_in}
 use Rattle.broker_tape.specs.declared.tape.Item.{Item}
 use Rattle.broker_tape.specs.declared.tape.Item.TheVariants as items
 use Rattle.broker_tape.specs.declared.tape.Place.{Place}

@@ -3,7 +3,7 @@ use Rattle.std.specs.Prelude.{ℕ, List, [], ◌∷◌, Option, Some, None, if�
 use Rattle.std.specs.Int.{is_power_of_two}
 use Rattle.std.specs.Option.{option_map}
 use Rattle.std.specs.Str.{bytes_eq}
-use Rattle.plain_numbers.specs.Numbers.{number_in}
+use Rattle.plain_text.specs.Numbers.{number_in}
 use Rattle.plain_text.specs.Reading.{◌>>=◌}
 use Rattle.agent_journal.specs.Setups.{is_client}
 use Rattle.thing_topics.specs.Classes.{is_thing}

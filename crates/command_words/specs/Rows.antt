@@ -2,7 +2,7 @@
 use Rattle.std.specs.Prelude.{ℕ, Bool, true, false, ◌&&◌, not, nat_lt, nat_le, List, [], ◌∷◌, length, Option, Some, None, if◌then◌else◌}
 use Rattle.std.specs.List.{filter, list_all, list_any}
 use Rattle.std.specs.Str.{bytes_eq}
-use Rattle.plain_numbers.specs.Numbers.{number_in}
+use Rattle.plain_text.specs.Numbers.{number_in}
 use Rattle.plain_text.specs.Reading.{◌>>=◌}
 use Rattle.agent_journal.specs.Setups.{is_printed}
 use Rattle.command_words.specs.Options.{Given, is_dashed}

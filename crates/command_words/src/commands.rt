@@ -19,7 +19,7 @@ use crate::rows::{flag, number, number_or, text, text_or_none, value_of};
 use crate::tables::{broker_options, fetch_options, replay_options, share_options, world_options};
 use crate::words::{BrokerWords, FetchWords, RunWords, Size, Words, WorldWords};
 use list_types::Text;
-use plain_numbers::number_in;
+use plain_text::number_in;
 use std::alloc::Global;
 
 /// The command that the words behind the program's name spell.

@@ -13,7 +13,7 @@ use crate::classes::Class;
 use crate::faults::WordsFault;
 use crate::options::{Given, is_dashed};
 use list_types::Text;
-use plain_numbers::number_in;
+use plain_text::number_in;
 use std::alloc::Global;
 
 /// The options, where each has one of these names.

@@ -35,7 +35,7 @@ use Rattle.agent_table.specs.Rows.{Row, to, when, ends}
 use Rattle.agent_table.specs.Sizes.{Sizes}
 use Rattle.agent_table.specs.Table.{row_of, cause_row}
 use Rattle.agent_table.specs.Takes as takes
-use Rattle.replay_rounds.specs.Endings.{ending_of}
+use Rattle.agent_table.specs.Endings.{ending_of}
 use Rattle.journal_text.specs.Laws.{EndingsAreTold}
 use Rattle.journal_text.specs.Statuses.{is_send, comes_behind, phase_told, ending_told}
 

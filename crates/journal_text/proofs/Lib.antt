@@ -7,3 +7,5 @@ pub mod Names
 pub mod Ends
 pub mod Told
 pub mod Worked
+pub mod Piecewise
+pub mod Printed

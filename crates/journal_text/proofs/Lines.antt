@@ -20,7 +20,7 @@ use Rattle.agent_journal.specs.declared.entry.Cause.TheVariants as c
 use Rattle.agent_journal.specs.declared.entry.Entry.{Entry}
 use Rattle.agent_journal.specs.declared.effect.Effect.{Effect}
 use Rattle.agent_journal.specs.declared.effect.Effect.TheVariants as f
-use Rattle.agent_journal.specs.Texts.{qos_text, ask_text, filter_text, take_line, cause_line, effect_text, entry_text, journal_text, line_end}
+use Rattle.journal_text.specs.Texts.{qos_text, ask_text, filter_text, take_line, cause_line, effect_text, entry_text, journal_text, line_end}
 use Rattle.agent_table.proofs.SoundRows.{all_both}
 use Rattle.journal_text.specs.Typed.{IsTypedRequest, IsTypedWhy, IsTypedCause, IsTypedOutcome, IsTypedEffect, IsTypedEntry, AreBytes, HasBytes}
 use Rattle.journal_text.proofs.Marks.{IsWord, Line, IsLine, line_text, ended}

@@ -22,8 +22,8 @@ use Rattle.agent_journal.specs.declared.entry.Cause.TheVariants as c
 use Rattle.agent_journal.specs.declared.entry.Entry.{Entry}
 use Rattle.agent_journal.specs.declared.effect.Effect.{Effect}
 use Rattle.agent_journal.specs.declared.effect.Effect.TheVariants as f
-use Rattle.agent_journal.specs.Parts.{IsSoundCause, IsSoundEffect, IsSoundEntry}
-use Rattle.agent_journal.specs.Texts.{qos_text}
+use Rattle.agent_journal.specs.Sound.{IsSoundCause, IsSoundEffect, IsSoundEntry}
+use Rattle.journal_text.specs.Texts.{qos_text}
 use Rattle.journal_text.specs.Laws.{TextsNameJournals}
 use Rattle.journal_text.specs.Typed.{IsTypedRequest, IsTypedWhy, IsTypedCause, IsTypedOutcome, IsTypedEffect, IsTypedEntry, AreBytes, HasBytes}
 use Rattle.journal_text.proofs.Marks.{Line, lines_same, head_same, tail_same}

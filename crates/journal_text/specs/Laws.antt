@@ -4,12 +4,13 @@ use Rattle.std.specs.List.{AllByRecursion}
 use Rattle.agent_journal.specs.declared.ending.Ending.{Ending}
 use Rattle.agent_journal.specs.declared.entry.Entry.{Entry}
 use Rattle.agent_journal.specs.declared.setup.Setup.{Setup}
-use Rattle.agent_journal.specs.Parts.{IsSoundEntry}
-use Rattle.agent_journal.specs.Texts.{journal_text}
-use Rattle.agent_journal.specs.Worked.{journal, text}
+use Rattle.agent_journal.specs.Sound.{IsSoundEntry}
+use Rattle.journal_text.specs.Texts.{journal_text}
+use Rattle.agent_journal.specs.Worked.{journal}
+use Rattle.journal_text.specs.Printed.{text}
 use Rattle.agent_table.specs.Histories.{IsLegalPast}
 use Rattle.agent_table.specs.Sizes.{Sizes}
-use Rattle.replay_rounds.specs.Endings.{ending_of}
+use Rattle.agent_table.specs.Endings.{ending_of}
 use Rattle.journal_text.specs.Statuses.{ending_told}
 use Rattle.journal_text.specs.Typed.{IsTypedEntry}
 

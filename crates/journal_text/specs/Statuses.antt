@@ -16,7 +16,7 @@ use Rattle.agent_journal.specs.Endings.{ending_by, status}
 use Rattle.agent_journal.specs.Wires.{is_opened}
 use Rattle.agent_table.specs.Histories.{IsLegal}
 use Rattle.agent_table.specs.Sizes.{Sizes}
-use Rattle.replay_rounds.specs.Endings.{ending_of}
+use Rattle.agent_table.specs.Endings.{ending_of}
 
 abbrev pub is_send : Effect → Bool
 is_send (f.Send packet) = true

@@ -1,6 +1,13 @@
 //! Laws of the definitions, each the contract of a function that does nothing.
 
 ghost use Rattle.journal_text.specs.Laws.{TextsNameJournals, ExampleIsNamed, EndingsAreTold};
+ghost use Rattle.journal_text.specs.Printed.{ExampleIsPrinted};
+
+/// The journal of the first example of a replay is printed so.
+#[tactic(auto, using(crate::proofs::Printed::example_is_printed))]
+pub fn first_example()
+    ensures { ExampleIsPrinted }
+{}
 
 /// Two journals with the same text are the same journal.
 #[tactic(auto, using(crate::proofs::Names::texts_name_journals))]

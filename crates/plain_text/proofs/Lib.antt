@@ -3,3 +3,4 @@ pub mod FirstLines
 pub mod Unescaped
 pub mod Escaping
 pub mod WhatIsRead
+pub mod Digits

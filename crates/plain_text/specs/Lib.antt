@@ -3,3 +3,4 @@ pub mod Words
 pub mod Escapes
 pub mod Payloads
 pub mod Reading
+pub mod Numbers

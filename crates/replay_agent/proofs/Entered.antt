@@ -11,10 +11,10 @@ use Rattle.agent_journal.specs.declared.entry.Cause.TheVariants as c
 use Rattle.agent_journal.specs.declared.entry.Why.TheVariants as why
 use Rattle.agent_journal.specs.declared.entry.Entry.{Entry}
 use Rattle.agent_journal.specs.declared.effect.Effect.{Effect}
-use Rattle.agent_journal.specs.declared.script.Line.{Line}
+use Rattle.agent_script.specs.declared.script.Line.{Line}
 use Rattle.agent_journal.specs.declared.setup.Phase.{Phase}
 use Rattle.agent_journal.specs.Endings.{ending_behind}
-use Rattle.agent_journal.specs.Parts.{IsSoundEffect}
+use Rattle.agent_journal.specs.Sound.{IsSoundEffect}
 use Rattle.agent_journal.specs.Projections.{is_pass}
 use Rattle.agent_journal.specs.Readings.{takes_behind, leaves_by}
 use Rattle.agent_journal.specs.Setups.{is_client}
@@ -28,7 +28,7 @@ use Rattle.agent_table.specs.Rows.{Row}
 use Rattle.replay_rounds.specs.World.{World, row_in, settled}
 use Rattle.replay_rounds.specs.Entering.{entry, noted, noted_by, failed, onto_wire, sends, sends_some, entered, entered_by}
 use Rattle.replay_rounds.specs.Lines.{is_closed}
-use Rattle.replay_rounds.specs.Endings.{ending_of}
+use Rattle.agent_table.specs.Endings.{ending_of}
 use Rattle.replay_agent.specs.declared.run.Run.{Run}
 use Rattle.replay_agent.specs.Entries.{Makes}
 use Rattle.replay_agent.specs.Runs.{world, IsNoted, IsSound}

@@ -7,10 +7,10 @@ use Rattle.broker_tape.specs.Playing.{counts, unplayed}
 use Rattle.agent_journal.specs.declared.entry.Entry.{Entry}
 use Rattle.agent_journal.specs.declared.ending.Ending.{Ending}
 use Rattle.agent_journal.specs.declared.request.Request.TheVariants as requests
-use Rattle.agent_journal.specs.declared.script.Line.{Line}
+use Rattle.agent_script.specs.declared.script.Line.{Line}
 use Rattle.agent_journal.specs.declared.setup.Setup.{Setup}
-use Rattle.agent_journal.specs.Parts.{IsSoundEntry}
-use Rattle.agent_journal.specs.Scripts.{asked_in}
+use Rattle.agent_journal.specs.Sound.{IsSoundEntry}
+use Rattle.agent_script.specs.Asked.{asked_in}
 use Rattle.agent_journal.specs.Setups.{is_client}
 use Rattle.agent_table.specs.Sizes.{Sizes}
 use Rattle.agent_table.proofs.SoundPasts.{packets_are_sound}
@@ -18,7 +18,7 @@ use Rattle.agent_core.specs.Kept.{Kept, beginning}
 use Rattle.agent_core.specs.Stands.{StandsFor}
 use Rattle.replay_rounds.specs.World.{World}
 use Rattle.replay_rounds.specs.Asked.{IsValidLine, taken_and_left}
-use Rattle.replay_rounds.specs.Endings.{ending_of}
+use Rattle.agent_table.specs.Endings.{ending_of}
 use Rattle.replay_rounds.specs.Rounds.{begun, fresh, has_ended}
 use Rattle.replay_rounds.specs.Bound.{bound, finished}
 use Rattle.replay_rounds.proofs.Asked.{IsAsking}

@@ -1,7 +1,7 @@
 -- Laws of what a replay is given, each the contract of a function that does nothing.
 use Rattle.std.specs.Prelude.{◌≡◌, ℕ, List, Ok}
 use Rattle.std.specs.List.{AllByRecursion}
-use Rattle.agent_journal.specs.declared.script.Script.{Script}
+use Rattle.agent_script.specs.declared.script.Script.{Script}
 use Rattle.agent_script.specs.Scripts.{script_of}
 use Rattle.replay_rounds.specs.Asked.{IsValidLine}
 

@@ -2,7 +2,7 @@
 use Rattle.std.specs.Prelude.{◌≡◌, ℕ, ◌*◌, ◌^◌, ◌≤◌, true, List, reverse, drop, length}
 use Rattle.broker_tape.specs.Playing.{counts}
 use Rattle.agent_journal.specs.declared.entry.Entry.{Entry}
-use Rattle.agent_journal.specs.declared.script.Line.{Line}
+use Rattle.agent_script.specs.declared.script.Line.{Line}
 use Rattle.agent_journal.specs.declared.setup.Setup.{Setup}
 use Rattle.agent_journal.specs.Projections.{messages_of}
 use Rattle.agent_journal.specs.Readings.{takes_of, has_left}
@@ -11,7 +11,7 @@ use Rattle.agent_core.specs.Kept.{Kept}
 use Rattle.agent_core.specs.Stands.{StandsFor}
 use Rattle.replay_rounds.specs.World.{World}
 use Rattle.replay_rounds.specs.Lines.{closed_of}
-use Rattle.replay_rounds.specs.Endings.{ending_of}
+use Rattle.agent_table.specs.Endings.{ending_of}
 use Rattle.agent_table.specs.Sizes.{Sizes}
 use Rattle.replay_agent.specs.declared.notes.Notes.{Notes}
 use Rattle.replay_agent.specs.declared.run.Run.{Run}

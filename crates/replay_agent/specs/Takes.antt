@@ -1,8 +1,8 @@
 -- What the code knows when it passes lines over.
 use Rattle.std.specs.Prelude.{◌≡◌, ℕ, ◌+◌, ◌||◌, nat_le, List, drop, Option, Some, None, if◌then◌else◌}
-use Rattle.agent_journal.specs.declared.script.Line.{Line}
-use Rattle.agent_journal.specs.declared.script.Step.{Step}
-use Rattle.agent_journal.specs.declared.script.Step.TheVariants as steps
+use Rattle.agent_script.specs.declared.script.Line.{Line}
+use Rattle.agent_script.specs.declared.script.Step.{Step}
+use Rattle.agent_script.specs.declared.script.Step.TheVariants as steps
 use Rattle.replay_rounds.specs.World.{World}
 use Rattle.replay_rounds.specs.Lines.{Told, passes}
 use Rattle.replay_agent.specs.declared.run.take.Told.{Told as Known}

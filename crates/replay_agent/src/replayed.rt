@@ -3,19 +3,20 @@
 ghost use Rattle.std.specs.Prelude.{◌≡◌, ◌<◌, ◌≤◌, ℕ, length, reverse, true, Some, IfOk};
 ghost use Rattle.std.specs.List.{AllByRecursion};
 ghost use Rattle.broker_tape.specs.Playing.{counts};
-ghost use Rattle.agent_journal.specs.Parts.{IsSoundEntry};
+ghost use Rattle.agent_journal.specs.Sound.{IsSoundEntry};
 ghost use Rattle.agent_journal.specs.Projections.{messages_of};
 ghost use Rattle.agent_journal.specs.Setups.{is_client};
 ghost use Rattle.agent_table.specs.Sizes.{Sizes};
 ghost use Rattle.replay_rounds.specs.Asked.{IsValidLine};
 ghost use Rattle.replay_rounds.specs.Bound.{finished};
-ghost use Rattle.replay_rounds.specs.Endings.{ending_of};
+ghost use Rattle.agent_table.specs.Endings.{ending_of};
 ghost use Rattle.replay_rounds.specs.Rounds.{begun};
 ghost use Rattle.replay_agent.specs.Runs.{sizes_of};
 
 use crate::run::Run;
 use agent_core::Core;
-use agent_journal::{Ending, Journal, Script, Setup};
+use agent_journal::{Ending, Journal, Setup};
+use agent_script::Script;
 use broker_tape::{Tape, TapeLink};
 use mqtt_packet::NoMemory;
 use std::alloc::Global;

@@ -4,7 +4,7 @@ ghost use Rattle.std.specs.Prelude.{◌≡◌, ℕ, ◌+◌, ◌-◌, ◌*◌, �
 ghost use Rattle.agent_link.specs.Clocks.{Stepping};
 ghost use Rattle.mqtt_packet.specs.Splitting.{Kept as Stream};
 ghost use Rattle.broker_tape.specs.Playing.{unplayed};
-ghost use Rattle.agent_journal.specs.declared.script.Line.{Line};
+ghost use Rattle.agent_script.specs.declared.script.Line.{Line};
 ghost use Rattle.agent_core.specs.Kept.{row_now};
 ghost use Rattle.replay_rounds.specs.World as worlds;
 ghost use Rattle.replay_rounds.specs.Entering as entering;

@@ -1,10 +1,11 @@
 //! Replays, by their journals' texts, which were worked out by hand from the table.
 
 ghost use Rattle.std.specs.List.{AllByRecursion};
-ghost use Rattle.agent_journal.specs.Parts.{IsSoundEntry};
+ghost use Rattle.agent_journal.specs.Sound.{IsSoundEntry};
 
 use super::*;
-use agent_journal::{Entry, Setup, write_entry};
+use agent_journal::{Entry, Setup};
+use journal_text::write_entry;
 use agent_link::MemSink;
 use agent_script::read_script;
 use broker_tape::read_tape;

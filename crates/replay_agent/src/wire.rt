@@ -6,7 +6,7 @@ ghost use Rattle.mqtt_packet.specs.Spelling as spelling;
 ghost use Rattle.agent_link.specs.Counts.{with_fault};
 ghost use Rattle.agent_link.specs.Wires.{onto_last};
 ghost use Rattle.broker_tape.specs.Playing.{counts, fitting, room_behind};
-ghost use Rattle.agent_journal.specs.Parts.{IsSoundEffect};
+ghost use Rattle.agent_journal.specs.Sound.{IsSoundEffect};
 ghost use Rattle.agent_journal.specs.Wires.{sent_in};
 
 use agent_journal::Effect;

@@ -15,16 +15,16 @@ use Rattle.agent_journal.specs.declared.entry.Cause.TheVariants as c
 use Rattle.agent_journal.specs.declared.entry.Why.TheVariants as why
 use Rattle.agent_journal.specs.declared.request.Request.{Request}
 use Rattle.agent_journal.specs.declared.request.Request.TheVariants as requests
-use Rattle.agent_journal.specs.declared.script.Line.{Line}
-use Rattle.agent_journal.specs.declared.script.Step.{Step}
-use Rattle.agent_journal.specs.declared.script.Step.TheVariants as steps
+use Rattle.agent_script.specs.declared.script.Line.{Line}
+use Rattle.agent_script.specs.declared.script.Step.{Step}
+use Rattle.agent_script.specs.declared.script.Step.TheVariants as steps
 use Rattle.agent_journal.specs.declared.setup.Phase.{Phase}
 use Rattle.agent_journal.specs.declared.setup.Phase.TheVariants.{Down, Opening, Up, Spilled, Off}
 use Rattle.agent_journal.specs.Endings.{is_off}
 use Rattle.agent_journal.specs.Projections.{requests_of, request_in}
 use Rattle.agent_journal.specs.Readings.{takes_of, takes_by as takes_cause, has_left, leaves_by, is_leave}
 use Rattle.agent_journal.specs.Requests.{is_valid}
-use Rattle.agent_journal.specs.Scripts.{asked_by, asked_in}
+use Rattle.agent_script.specs.Asked.{asked_by, asked_in}
 use Rattle.agent_journal.specs.Wires.{sent_in}
 use Rattle.agent_table.specs.Histories.{readings, due_by}
 use Rattle.agent_table.specs.Readings.{at_most}

@@ -9,21 +9,21 @@ use Rattle.agent_journal.specs.declared.entry.Cause.{Cause}
 use Rattle.agent_journal.specs.declared.entry.Cause.TheVariants as c
 use Rattle.agent_journal.specs.declared.entry.Entry.{Entry}
 use Rattle.agent_journal.specs.declared.request.Request.TheVariants as requests
-use Rattle.agent_journal.specs.declared.script.Line.{Line}
-use Rattle.agent_journal.specs.declared.script.Step.{Step}
-use Rattle.agent_journal.specs.declared.script.Step.TheVariants as steps
+use Rattle.agent_script.specs.declared.script.Line.{Line}
+use Rattle.agent_script.specs.declared.script.Step.{Step}
+use Rattle.agent_script.specs.declared.script.Step.TheVariants as steps
 use Rattle.agent_journal.specs.declared.setup.Setup.{Setup}
 use Rattle.agent_journal.specs.Endings.{is_off, ending_by as ending_by_cause}
 use Rattle.agent_journal.specs.Projections.{requests_of, request_in}
 use Rattle.agent_journal.specs.Readings.{has_left, takes_of, takes_by as takes_cause}
-use Rattle.agent_journal.specs.Scripts.{asked_in, asked_by}
+use Rattle.agent_script.specs.Asked.{asked_in, asked_by}
 use Rattle.agent_table.specs.Histories.{phase_of}
 use Rattle.agent_table.specs.Sizes.{Sizes}
 use Rattle.replay_rounds.specs.Asked.{IsValidLine, leave_of, taken_and_left}
 use Rattle.replay_rounds.specs.World.{World, phase_in}
 use Rattle.replay_rounds.specs.Rounds.{round, has_ended, after, begun}
 use Rattle.replay_rounds.specs.Bound.{bound, finished}
-use Rattle.replay_rounds.specs.Endings.{ending_of}
+use Rattle.agent_table.specs.Endings.{ending_of}
 use Rattle.replay_rounds.proofs.Asked.{IsAsking, GoesOn, acts_go_on, none_asked}
 use Rattle.replay_rounds.proofs.Ends.{IsSteady, round_steady, begun_steady, next_time, replays_end}
 use Rattle.replay_rounds.proofs.Moments.{timely_kept}

@@ -5,7 +5,7 @@ use Rattle.std.proofs.Math.Nat.{mul-le-mul_right}
 use Rattle.agent_link.specs.Clocks.{Stepping, step_reading, after_reading}
 use Rattle.broker_tape.specs.declared.tape.Item.{Item}
 use Rattle.agent_journal.specs.declared.entry.Cause.{Cause}
-use Rattle.agent_journal.specs.declared.script.Line.{Line}
+use Rattle.agent_script.specs.declared.script.Line.{Line}
 use Rattle.agent_journal.specs.declared.setup.Setup.{Setup}
 use Rattle.agent_journal.specs.declared.setup.Phase.{Phase}
 use Rattle.agent_journal.specs.declared.setup.Phase.TheVariants.{Down, Opening, Up, Spilled, Off}

@@ -9,7 +9,7 @@ use Rattle.agent_journal.specs.declared.setup.Setup.{Setup}
 use Rattle.agent_journal.specs.Endings.{is_off, ending_by}
 use Rattle.agent_journal.specs.Projections.{requests_of}
 use Rattle.agent_journal.specs.Readings.{has_left}
-use Rattle.agent_journal.specs.Scripts.{asked}
+use Rattle.agent_script.specs.Asked.{asked}
 use Rattle.agent_table.specs.Histories.{IsLegalPast, IsWholePast, phase_of}
 use Rattle.agent_table.specs.Promises.{AreEarned}
 use Rattle.agent_table.specs.Sizes.{Sizes}
@@ -17,7 +17,7 @@ use Rattle.agent_table.proofs.Earned.{outcomes_are_earned}
 use Rattle.agent_table.proofs.Ended.{commands_complete_once}
 use Rattle.replay_rounds.specs.World.{phase_in}
 use Rattle.replay_rounds.specs.Bound.{bound, finished}
-use Rattle.replay_rounds.specs.Endings.{ending_of}
+use Rattle.agent_table.specs.Endings.{ending_of}
 use Rattle.replay_rounds.specs.Laws.{ReplaysAreHistories}
 use Rattle.replay_rounds.specs.Rounds.{begun}
 use Rattle.replay_rounds.proofs.AskedAll.{replays_take_all}

@@ -2,13 +2,13 @@
 use Rattle.std.specs.Prelude.{◌≡◌, Bool, true, false, List, [], ◌∷◌, ◌++◌}
 use Rattle.agent_journal.specs.declared.request.Request.{Request}
 use Rattle.agent_journal.specs.declared.request.Request.TheVariants as requests
-use Rattle.agent_journal.specs.declared.script.Line.{Line}
-use Rattle.agent_journal.specs.declared.script.Step.{Step}
-use Rattle.agent_journal.specs.declared.script.Step.TheVariants as steps
+use Rattle.agent_script.specs.declared.script.Line.{Line}
+use Rattle.agent_script.specs.declared.script.Step.{Step}
+use Rattle.agent_script.specs.declared.script.Step.TheVariants as steps
 use Rattle.agent_journal.specs.Projections.{requests_of}
 use Rattle.agent_journal.specs.Readings.{has_left, is_leave}
 use Rattle.agent_journal.specs.Requests.{is_valid}
-use Rattle.agent_journal.specs.Scripts.{asked_in}
+use Rattle.agent_script.specs.Asked.{asked_in}
 use Rattle.replay_rounds.specs.World.{World}
 
 abbrev pub IsValidStep : Step → Type 0

@@ -6,17 +6,17 @@ use Rattle.agent_link.specs.Counts.{uncounted}
 use Rattle.broker_tape.specs.declared.tape.Item.{Item}
 use Rattle.agent_journal.specs.declared.request.Request.TheVariants as requests
 use Rattle.agent_journal.specs.declared.ending.Ending.{Ending}
-use Rattle.agent_journal.specs.declared.script.Line.{Line}
-use Rattle.agent_journal.specs.declared.script.Script.{Script}
+use Rattle.agent_script.specs.declared.script.Line.{Line}
+use Rattle.agent_script.specs.declared.script.Script.{Script}
 use Rattle.agent_journal.specs.declared.setup.Setup.{Setup}
 use Rattle.agent_journal.specs.Projections.{requests_of}
-use Rattle.agent_journal.specs.Scripts.{asked, asked_in}
+use Rattle.agent_script.specs.Asked.{asked, asked_in}
 use Rattle.agent_table.specs.Histories.{IsLegalPast}
 use Rattle.agent_table.specs.Promises.{IsHistoryOf}
 use Rattle.agent_table.specs.Sizes.{Sizes}
 use Rattle.agent_table.specs.Ties.{IsTied}
 use Rattle.replay_rounds.specs.Asked.{IsValidLine}
-use Rattle.replay_rounds.specs.Endings.{ending_of}
+use Rattle.agent_table.specs.Endings.{ending_of}
 use Rattle.broker_tape.specs.Given.{GivesBytes, AreFronts, wires}
 use Rattle.replay_rounds.specs.World.{World}
 use Rattle.replay_rounds.specs.Rounds.{after, begun, has_ended}

@@ -3,7 +3,6 @@ pub mod Entering
 pub mod Receiving
 pub mod Lines
 pub mod Rounds
-pub mod Endings
 pub mod Bound
 pub mod Asked
 pub mod Laws

@@ -4,14 +4,14 @@ use Rattle.broker_tape.specs.declared.tape.Item.{Item}
 use Rattle.agent_journal.specs.declared.entry.Entry.{Entry}
 use Rattle.agent_journal.specs.declared.ending.Ending.{Ending}
 use Rattle.agent_journal.specs.declared.ending.Ending.TheVariants as endings
-use Rattle.agent_journal.specs.declared.script.Script.{Script}
+use Rattle.agent_script.specs.declared.script.Script.{Script}
 use Rattle.agent_journal.specs.declared.setup.Setup.{Setup}
 use Rattle.agent_journal.specs.Endings.{status}
 use Rattle.agent_table.specs.Sizes.{Sizes}
 use Rattle.command_words.specs.declared.words.RunWords.{RunWords}
 use Rattle.command_words.specs.Setups.{setup_of}
 use Rattle.replay_rounds.specs.Bound.{finished}
-use Rattle.replay_rounds.specs.Endings.{ending_of}
+use Rattle.agent_table.specs.Endings.{ending_of}
 use Rattle.replay_rounds.specs.Rounds.{begun}
 use Rattle.command_answers.specs.Answers.{answer, IsPlain}
 use Rattle.replay_run.specs.Answers.{answer_by, report, replay_answer}

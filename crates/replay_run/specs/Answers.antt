@@ -3,18 +3,18 @@ use Rattle.std.specs.Prelude.{ℕ, List, [], ◌∷◌, ◌++◌, reverse, Optio
 use Rattle.broker_tape.specs.declared.tape.Item.{Item}
 use Rattle.agent_journal.specs.declared.entry.Entry.{Entry}
 use Rattle.agent_journal.specs.declared.ending.Ending.{Ending}
-use Rattle.agent_journal.specs.declared.script.Script.{Script}
+use Rattle.agent_script.specs.declared.script.Script.{Script}
 use Rattle.agent_journal.specs.declared.setup.Setup.{Setup}
 use Rattle.agent_journal.specs.Endings.{status}
 use Rattle.agent_journal.specs.Projections.{commands_of, completed_of, messages_of}
-use Rattle.agent_journal.specs.Texts.{joined, line_end, last_line, journal_text}
+use Rattle.journal_text.specs.Texts.{joined, line_end, last_line, journal_text}
 use Rattle.agent_table.specs.Sizes.{Sizes}
 use Rattle.command_answers.specs.Answers.{Answer, answer}
 use Rattle.command_words.specs.declared.words.RunWords.{RunWords}
 use Rattle.command_words.specs.Setups.{setup_of}
 use Rattle.replay_rounds.specs.World.{World}
 use Rattle.replay_rounds.specs.Bound.{finished}
-use Rattle.replay_rounds.specs.Endings.{ending_of}
+use Rattle.agent_table.specs.Endings.{ending_of}
 use Rattle.replay_rounds.specs.Rounds.{begun}
 use Rattle.thing_script.specs.Kinds.{count_passed, is_shadow_of, is_jobs_of}
 

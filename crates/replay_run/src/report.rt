@@ -4,12 +4,13 @@ ghost use Rattle.std.specs.Prelude.{◌≡◌, ◌++◌, ◌+◌, ◌^◌, ◌<�
 ghost use Rattle.std.specs.List.{flat_map, AllByRecursion};
 ghost use Rattle.agent_link.specs.Counts.{Counted};
 ghost use Rattle.agent_link.specs.Writes.{Writes};
-ghost use Rattle.agent_journal.specs.Parts.{IsSoundEntry};
+ghost use Rattle.agent_journal.specs.Sound.{IsSoundEntry};
 ghost use Rattle.agent_journal.specs.Projections as projections;
-ghost use Rattle.agent_journal.specs.Texts.{journal_text, entry_text, last_line};
+ghost use Rattle.journal_text.specs.Texts.{journal_text, entry_text, last_line};
 ghost use Rattle.replay_run.specs.Answers.{task_line, kinds_of, kinds_line, report};
 
-use agent_journal::{Cause, Effect, Ending, Entry, Part, Request, write_entry, write_parts};
+use agent_journal::{Cause, Effect, Ending, Entry, Request};
+use journal_text::{Part, write_entry, write_parts};
 use agent_link::{Fault, Page, Sink};
 use list_types::Text;
 use replay_agent::Replayed;

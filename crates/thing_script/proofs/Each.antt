@@ -1,7 +1,7 @@
 -- What holds of whatever is made.
 use Rattle.std.proofs.Common.{ℕ, List, [], ◌∷◌, Option, Result, Ok, Err}
 use Rattle.std.specs.List.{AllByRecursion}
-use Rattle.agent_journal.specs.declared.script.Line.{Line}
+use Rattle.agent_script.specs.declared.script.Line.{Line}
 use Rattle.thing_script.specs.Topics.{lines_with, onto, request_line}
 
 abbrev pub OkIs : {A : Type 0} → (A → Type 0) → Result A ℕ → Type 0

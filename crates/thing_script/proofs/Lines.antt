@@ -4,9 +4,9 @@ use Rattle.std.specs.Prelude.{codes}
 use Rattle.std.specs.List.{AllByRecursion}
 use Rattle.std.specs.Str.{bytes_eq}
 use Rattle.std.proofs.lemmas.Bool.{le-leb}
-use Rattle.agent_journal.specs.declared.script.Line.{Line}
-use Rattle.agent_journal.specs.declared.script.Step.{Step}
-use Rattle.agent_journal.specs.declared.script.Step.TheVariants as steps
+use Rattle.agent_script.specs.declared.script.Line.{Line}
+use Rattle.agent_script.specs.declared.script.Step.{Step}
+use Rattle.agent_script.specs.declared.script.Step.TheVariants as steps
 use Rattle.agent_journal.specs.Requests.{is_topic, is_valid}
 use Rattle.replay_rounds.specs.Asked.{IsValidLine, IsValidStep}
 use Rattle.thing_topics.specs.declared.faults.NameFault.{NameFault}

@@ -1,7 +1,7 @@
 -- Lines so far, and those that are left, which stand in reverse.
 use Rattle.std.proofs.Common.{◌≡◌, ℕ, List, [], ◌∷◌, ◌++◌, length, reverse, Option, Result, Ok, Err, refl, sym, ap, ◌∙◌}
 use Rattle.std.proofs.lemmas.List.{append-nil, append_assoc, nil_from_length, reverse-append, reverse-reverse}
-use Rattle.agent_journal.specs.declared.script.Line.{Line}
+use Rattle.agent_script.specs.declared.script.Line.{Line}
 use Rattle.thing_script.specs.Topics.{lines_with, onto, request_line}
 
 abbrev pub behind : List Line → Result (List Line) ℕ → Result (List Line) ℕ

@@ -1,10 +1,10 @@
 -- The payloads of a script that was read from a text are short.
 use Rattle.std.proofs.Common.{◌≡◌, ℕ, List, [], ◌∷◌, Ok}
 use Rattle.std.specs.List.{AllByRecursion}
-use Rattle.agent_journal.specs.declared.script.Line.{Line}
-use Rattle.agent_journal.specs.declared.script.Script.{Script}
-use Rattle.agent_journal.specs.declared.script.Step.{Step}
-use Rattle.agent_journal.specs.declared.script.Step.TheVariants as steps
+use Rattle.agent_script.specs.declared.script.Line.{Line}
+use Rattle.agent_script.specs.declared.script.Script.{Script}
+use Rattle.agent_script.specs.declared.script.Step.{Step}
+use Rattle.agent_script.specs.declared.script.Step.TheVariants as steps
 use Rattle.agent_script.specs.Scripts.{script_of}
 use Rattle.agent_script.specs.Laws.{IsReadStep, IsReadLine}
 use Rattle.agent_script.proofs.ReadLines.{lines_are_read}

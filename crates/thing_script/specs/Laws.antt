@@ -1,7 +1,7 @@
 -- Laws of the definitions, each the contract of a function that does nothing.
 use Rattle.std.specs.Prelude.{◌≡◌, ◌↔◌, ℕ, true, List, Ok}
 use Rattle.std.specs.List.{AllByRecursion}
-use Rattle.agent_journal.specs.declared.script.Script.{Script}
+use Rattle.agent_script.specs.declared.script.Script.{Script}
 use Rattle.agent_script.specs.Scripts.{script_of}
 use Rattle.thing_script.specs.Kinds.{IsShadowOf, IsJobsOf, is_shadow_of, is_jobs_of}
 use Rattle.thing_script.specs.Plain.{IsShortLine}

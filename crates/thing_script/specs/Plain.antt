@@ -1,8 +1,8 @@
 -- Lines that ask for requests alone, and payloads that a request may have.
 use Rattle.std.specs.Prelude.{◌≤◌, length}
-use Rattle.agent_journal.specs.declared.script.Line.{Line}
-use Rattle.agent_journal.specs.declared.script.Step.{Step}
-use Rattle.agent_journal.specs.declared.script.Step.TheVariants as steps
+use Rattle.agent_script.specs.declared.script.Line.{Line}
+use Rattle.agent_script.specs.declared.script.Step.{Step}
+use Rattle.agent_script.specs.declared.script.Step.TheVariants as steps
 use Rattle.replay_rounds.specs.Asked.{IsValidStep}
 
 -- it speaks of no shadow and of no job

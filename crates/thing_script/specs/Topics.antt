@@ -4,10 +4,10 @@ use Rattle.std.specs.Str.{bytes_eq}
 use Rattle.mqtt_packet.specs.declared.qos.Qos.TheVariants.{AtLeastOnce}
 use Rattle.plain_text.specs.Reading.{◌>>=◌}
 use Rattle.agent_journal.specs.declared.request.Request.TheVariants as requests
-use Rattle.agent_journal.specs.declared.script.Line.{Line}
-use Rattle.agent_journal.specs.declared.script.Script.{Script}
-use Rattle.agent_journal.specs.declared.script.Step.{Step}
-use Rattle.agent_journal.specs.declared.script.Step.TheVariants as steps
+use Rattle.agent_script.specs.declared.script.Line.{Line}
+use Rattle.agent_script.specs.declared.script.Script.{Script}
+use Rattle.agent_script.specs.declared.script.Step.{Step}
+use Rattle.agent_script.specs.declared.script.Step.TheVariants as steps
 use Rattle.thing_topics.specs.declared.faults.NameFault.{NameFault}
 use Rattle.thing_topics.specs.declared.shadows.ShadowKind.{ShadowKind}
 use Rattle.thing_topics.specs.declared.shadows.ShadowKind.TheVariants as shadow_kinds

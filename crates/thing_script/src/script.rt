@@ -11,7 +11,7 @@ ghost use Rattle.thing_script.specs.Topics as topics;
 
 use crate::faults::LineFault;
 use crate::steps::step_with;
-use agent_journal::{Line, Script};
+use agent_script::{Line, Script};
 use list_types::Seq;
 use plain_text::Refusal;
 use std::alloc::Global;

@@ -5,7 +5,8 @@ ghost use Rattle.std.specs.Option.{option_copied};
 ghost use Rattle.plain_text.specs.Reading.{Gives};
 ghost use Rattle.thing_script.specs.Topics as topics;
 
-use agent_journal::{Request, Step};
+use agent_journal::Request;
+use agent_script::Step;
 use list_types::{Blob, Text};
 use mqtt_packet::Qos;
 use plain_text::Refusal;

@@ -1,7 +1,8 @@
 //! Scripts as texts with the topics that were written out by hand, and a journal's messages.
 
 use super::*;
-use agent_journal::{Cause, Effect, Entry, Message, Request, Script, Step};
+use agent_journal::{Cause, Effect, Entry, Message, Request};
+use agent_script::{Script, Step};
 use agent_script::read_script;
 use list_types::{Blob, Seq, Text};
 use mqtt_packet::Qos;

@@ -2,7 +2,7 @@
 use Rattle.std.specs.Prelude.{◌≡◌, IfSome, true, ℕ, ◌+◌, ◌&&◌, false, List, [], ◌∷◌, ◌++◌, Option, Some, None, Result, Ok, Err, if◌then◌else◌, codes}
 use Rattle.std.specs.List.{AllByRecursion}
 use Rattle.std.specs.Str.{bytes_eq, is_utf8}
-use Rattle.plain_numbers.specs.Numbers.{number_in}
+use Rattle.plain_text.specs.Numbers.{number_in}
 use Rattle.plain_text.specs.Escapes.{text_of}
 use Rattle.plain_text.specs.Lines.{is_passed, lines_of}
 use Rattle.plain_text.specs.Reading.{◌>>=◌}

@@ -1,7 +1,7 @@
 //! Entries of a run, and their packets.
 
 ghost use Rattle.std.specs.Prelude.{◌≡◌, ℕ, ◌-◌, ◌^◌, ◌<◌, List, true, is_some, OnOk};
-ghost use Rattle.agent_journal.specs.declared.script.Line.{Line};
+ghost use Rattle.agent_script.specs.declared.script.Line.{Line};
 ghost use Rattle.agent_journal.specs.Readings.{takes_by};
 ghost use Rattle.agent_core.specs.Kept.{row_now};
 ghost use Rattle.replay_rounds.specs.World as worlds;

@@ -1,7 +1,7 @@
 //! Receives of a run: what comes is handed in packet by packet.
 
 ghost use Rattle.std.specs.Prelude.{◌≡◌, ℕ, ◌+◌, List, OnOk};
-ghost use Rattle.agent_journal.specs.declared.script.Line.{Line};
+ghost use Rattle.agent_script.specs.declared.script.Line.{Line};
 ghost use Rattle.agent_table.specs.Readings.{at_most};
 ghost use Rattle.agent_table.specs.Ties.{listens};
 ghost use Rattle.replay_rounds.specs.Receiving as receiving;

@@ -1,7 +1,7 @@
 //! The rounds of a run.
 
 ghost use Rattle.std.specs.Prelude.{◌≡◌, ℕ, ◌+◌, ◌-◌, ◌*◌, ◌^◌, ◌<◌, ◌≤◌, List, length, true, OnOk};
-ghost use Rattle.agent_journal.specs.declared.script.Line.{Line};
+ghost use Rattle.agent_script.specs.declared.script.Line.{Line};
 ghost use Rattle.replay_rounds.specs.Rounds as rounds;
 ghost use Rattle.replay_rounds.specs.Asked.{taken_and_left};
 ghost use Rattle.replay_rounds.specs.Bound.{finished};
@@ -10,7 +10,8 @@ ghost use Rattle.replay_rounds.proofs.Ends.{IsSteady};
 
 use crate::run::Run;
 use agent_core::Core;
-use agent_journal::{Cause, Phase, Script, Why};
+use agent_journal::{Cause, Phase, Why};
+use agent_script::Script;
 use agent_link::{Clock, Fault, Link};
 use mqtt_packet::{NoMemory, Splitter};
 use std::alloc::AllocError;

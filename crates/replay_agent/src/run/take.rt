@@ -1,13 +1,14 @@
 //! The script's lines in a run: which are passed over, and what is taken.
 
 ghost use Rattle.std.specs.Prelude.{◌≡◌, ℕ, ◌+◌, ◌-◌, ◌*◌, ◌^◌, ◌<◌, ◌≤◌, List, IfSome, OnOk};
-ghost use Rattle.agent_journal.specs.declared.script.Line.{Line as ScriptLine};
+ghost use Rattle.agent_script.specs.declared.script.Line.{Line as ScriptLine};
 ghost use Rattle.replay_rounds.specs.Lines as taking;
 ghost use Rattle.replay_agent.specs.Takes.{asked_behind, told_by, Stops};
 
 use crate::run::Run;
 use agent_core::Core;
-use agent_journal::{Cause, Line, Request, Script, Step};
+use agent_journal::{Cause, Request};
+use agent_script::{Line, Script, Step};
 use list_types::Copied;
 use mqtt_packet::NoMemory;
 

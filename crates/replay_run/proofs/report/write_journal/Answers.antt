@@ -1,5 +1,5 @@
 use Rattle.agent_link.proofs.Writing.{stopped, stopped_within}
-use Rattle.agent_journal.specs.Texts.{entry_text}
+use Rattle.journal_text.specs.Texts.{entry_text}
 use Rattle.replay_run.proofs.report.write_journal.Goals as goal
 
 pub returns-in_err-write_entry-clause-text : goal.returns-in_err-write_entry-clause-text

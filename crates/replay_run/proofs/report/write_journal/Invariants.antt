@@ -2,7 +2,7 @@
 use Rattle.std.proofs.Common.{◌≤◌, take}
 use Rattle.std.specs.List.{flat_map}
 use Rattle.std.specs.Io.KnownBytes.{Appends}
-use Rattle.agent_journal.specs.Texts.{entry_text}
+use Rattle.journal_text.specs.Texts.{entry_text}
 use Rattle.replay_run.proofs.report.write_journal.Given as goal
 
 abbrev pub invariant-loop-entry : goal.invariant-loop-entry

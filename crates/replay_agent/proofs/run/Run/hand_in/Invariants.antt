@@ -1,6 +1,6 @@
 -- What is left to hand in, behind so many turns, leads where all of it leads.
 use Rattle.std.proofs.Common.{◌≡◌, ◌-◌, List}
-use Rattle.agent_journal.specs.declared.script.Line.{Line}
+use Rattle.agent_script.specs.declared.script.Line.{Line}
 use Rattle.replay_rounds.specs.Receiving.{hands, hands_all}
 use Rattle.replay_agent.specs.Runs.{world, IsSound}
 use Rattle.replay_agent.proofs.run.Run.hand_in.Given as goal

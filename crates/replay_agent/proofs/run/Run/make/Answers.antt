@@ -1,6 +1,6 @@
 use Rattle.std.proofs.Common.{refl, sym, ap, ◌∙◌, subst}
 use Rattle.std.specs.List.{AllByRecursion}
-use Rattle.agent_journal.specs.Parts.{IsSoundEffect}
+use Rattle.agent_journal.specs.Sound.{IsSoundEffect}
 use Rattle.agent_journal.specs.Wires.{sent_in}
 use Rattle.replay_agent.proofs.Entered.{effects_sound, sound_behind, made_behind}
 use Rattle.replay_agent.proofs.run.Run.make.Goals as goal
