@@ -1,10 +1,17 @@
 -- Counts of the outside: of faults, ends and idle receives. A count never falls. It is a u64, and at the greatest one
 -- it stays.
-use Rattle.std.specs.Prelude.{ℕ, ◌+◌, ◌-◌, ◌^◌, ◌≤◌, min}
+use Rattle.std.specs.Prelude.{ℕ, ◌+◌, ◌-◌, ◌^◌, ◌≤◌, min, Result, Ok, Err}
+use Rattle.agent_link.specs.declared.fault.Fault.{Fault}
+use Rattle.agent_link.specs.declared.fault.Fault.TheVariants as faults
 
 -- the count behind one more
 abbrev pub raised : ℕ → ℕ
 raised count = min (count + 1) (2 ^ 64 - 1)
+
+-- the count of faults behind a call with this result: one more where it failed, and else as it was, also where memory ran out
+abbrev pub counted : {T : Type 0} → Result T Fault → ℕ → ℕ
+counted (Err faults.Failed) count = raised count
+counted _ count = count
 
 -- The count rose, or it stands at the greatest u64.
 abbrev pub Rose : ℕ → ℕ → Type 0

@@ -1,6 +1,7 @@
 -- The bytes of each connection of a link, the present connection last.
 use Rattle.std.specs.Prelude.{◌≡◌, ℕ, ◌<◌, ◌≤◌, List, [], ◌∷◌, ◌++◌, length, take, Option, Result, Ok, Err}
 use Rattle.std.specs.Option.{option_map}
+use Rattle.agent_link.specs.Counts.{raised}
 use Rattle.agent_link.specs.declared.fault.Fault.{Fault}
 use Rattle.agent_link.specs.declared.link.Heard.{Heard}
 use Rattle.agent_link.specs.declared.link.Heard.TheVariants as heard
@@ -27,6 +28,15 @@ after_recv wires (Ok (heard.Bytes n)) buffer = option_map (λ ws. onto_last ws (
 after_recv wires (Ok heard.Nothing) buffer = wires
 after_recv wires (Ok heard.End) buffer = wires
 after_recv wires (Err _) buffer = wires
+
+-- the counts behind a receive: of ends, one more where it found the end, and of receives that heard nothing
+abbrev pub ended : Result Heard Fault → ℕ → ℕ
+ended (Ok heard.End) count = raised count
+ended _ count = count
+
+abbrev pub silent : Result Heard Fault → ℕ → ℕ
+silent (Ok heard.Nothing) count = raised count
+silent _ count = count
 
 abbrev pub GivesSome : ℕ → List ℕ → Type 0
 GivesSome n buffer = (0 < n) × (n ≤ length buffer)

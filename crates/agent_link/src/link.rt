@@ -3,8 +3,8 @@
 ghost use Rattle.std.specs.Prelude.{◌≡◌, ℕ, ◌<◌, ◌≤◌, List, length, Ok, IfOk, IsErrOf};
 ghost use Rattle.std.specs.declared.option.Option.{Option};
 ghost use Rattle.std.specs.Io.{WritesAtMost};
-ghost use Rattle.agent_link.specs.Counts.{Counted, raised};
-ghost use Rattle.agent_link.specs.Wires.{after_open, after_send, after_recv, FitsIn};
+ghost use Rattle.agent_link.specs.Counts.{counted};
+ghost use Rattle.agent_link.specs.Wires.{after_open, after_send, after_recv, ended, silent, FitsIn};
 
 use crate::fault::Fault;
 
@@ -40,9 +40,9 @@ pub trait Link {
     fn open(&mut self, to: &str) -> Result<(), Fault>
         ensures taken { taken self.new ≡ after_open (taken self.old) result }
         ensures given { given self.new ≡ after_open (given self.old) result }
-        ensures cause { Counted (IsErrOf result Fault.Failed) (faults self.old) (faults self.new) }
-        ensures ends { ends self.old ≤ ends self.new }
-        ensures nothings { nothings self.old ≤ nothings self.new };
+        ensures cause { faults self.new ≡ counted result (faults self.old) }
+        ensures ends { ends self.new ≡ ends self.old }
+        ensures nothings { nothings self.new ≡ nothings self.old };
 
     /// Sends a front of the bytes, at least one, and answers how many.
     fn send(&mut self, bytes: &[u8]) -> Result<usize, Fault>
@@ -51,9 +51,9 @@ pub trait Link {
         ensures some { IfOk result (λ n. 0 < n) }
         ensures taken { taken self.new ≡ after_send (taken self.old) result bytes.now }
         ensures given { given self.new ≡ given self.old }
-        ensures cause { Counted (IsErrOf result Fault.Failed) (faults self.old) (faults self.new) }
-        ensures ends { ends self.old ≤ ends self.new }
-        ensures nothings { nothings self.old ≤ nothings self.new };
+        ensures cause { faults self.new ≡ counted result (faults self.old) }
+        ensures ends { ends self.new ≡ ends self.old }
+        ensures nothings { nothings self.new ≡ nothings self.old };
 
     /// Receives into the front of `buf`.
     fn recv(&mut self, buf: &mut [u8]) -> Result<Heard, Fault>
@@ -61,16 +61,15 @@ pub trait Link {
         ensures bound { FitsIn result buf.new }
         ensures taken { taken self.new ≡ taken self.old }
         ensures given { given self.new ≡ after_recv (given self.old) result buf.new }
-        ensures cause { Counted (IsErrOf result Fault.Failed) (faults self.old) (faults self.new) }
-        ensures ends { Counted (result ≡ Ok Heard.End) (ends self.old) (ends self.new) }
-        ensures nothings { nothings self.old ≤ nothings self.new }
-        ensures nothing { result ≡ Ok Heard.Nothing → nothings self.new ≡ raised (nothings self.old) };
+        ensures cause { faults self.new ≡ counted result (faults self.old) }
+        ensures ends { ends self.new ≡ ended result (ends self.old) }
+        ensures nothings { nothings self.new ≡ silent result (nothings self.old) };
 
     /// Ends the present connection.
     fn shut(&mut self)
         ensures taken { taken self.new ≡ taken self.old }
         ensures given { given self.new ≡ given self.old }
-        ensures faults { faults self.old ≤ faults self.new }
-        ensures ends { ends self.old ≤ ends self.new }
-        ensures nothings { nothings self.old ≤ nothings self.new };
+        ensures faults { faults self.new ≡ faults self.old }
+        ensures ends { ends self.new ≡ ends self.old }
+        ensures nothings { nothings self.new ≡ nothings self.old };
 }

@@ -3,7 +3,7 @@
 ghost use Rattle.std.specs.Prelude.{◌≡◌, ℕ, [], ◌<◌, ◌++◌, length, Some, IfOk, OnOk, OnErr, IsErrOf};
 ghost use Rattle.std.specs.Io.{WritesAtMost};
 ghost use Rattle.std.specs.Io.KnownBytes.{WriteAppends};
-ghost use Rattle.agent_link.specs.Counts.{Counted};
+ghost use Rattle.agent_link.specs.Counts.{counted};
 
 use crate::fault::Fault;
 use crate::sink::Sink;
@@ -63,7 +63,7 @@ impl Sink for Page {
         ensures bound { WritesAtMost result bytes.now }
         ensures some { IfOk result (λ n. n ≡ length bytes.now) }
         ensures bytes { WriteAppends (Some self.old) (Some self.new) result bytes.now }
-        ensures cause { Counted (IsErrOf result Fault.Failed) 0 0 }
+        ensures cause { 0 ≡ counted result 0 }
     {
         self.text.extend_from_slice(bytes)?;
         Ok(bytes.len())

@@ -4,7 +4,7 @@ ghost use Rattle.std.specs.Prelude.{◌≡◌, ℕ, ◌<◌, List, length, IfOk,
 ghost use Rattle.std.specs.declared.option.Option.{Option};
 ghost use Rattle.std.specs.Io.{WritesAtMost};
 ghost use Rattle.std.specs.Io.KnownBytes.{WriteAppends};
-ghost use Rattle.agent_link.specs.Counts.{Counted};
+ghost use Rattle.agent_link.specs.Counts.{counted};
 ghost use Rattle.agent_link.specs.Writes.{Writes};
 
 use crate::fault::Fault;
@@ -23,13 +23,13 @@ pub trait Sink {
         ensures bound { WritesAtMost result bytes.now }
         ensures some { IfOk result (λ n. 0 < n) }
         ensures bytes { WriteAppends (written self.old) (written self.new) result bytes.now }
-        ensures cause { Counted (IsErrOf result Fault.Failed) (faults self.old) (faults self.new) };
+        ensures cause { faults self.new ≡ counted result (faults self.old) };
 }
 
 /// Writes all of the bytes. After a fault a front of them was written.
 pub fn write_all<O: Sink>(out: &mut O, bytes: &[u8]) -> Result<(), Fault>
     ensures text { Writes (O.written out.old) (O.written out.new) result bytes.now }
-    ensures cause { Counted (IsErrOf result Fault.Failed) (O.faults out.old) (O.faults out.new) }
+    ensures cause { O.faults out.new ≡ counted result (O.faults out.old) }
 {
     let mut at = 0;
     while at < bytes.len() {

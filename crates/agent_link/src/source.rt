@@ -4,7 +4,7 @@ ghost use Rattle.std.specs.Prelude.{◌≡◌, ℕ, ◌<◌, ◌≤◌, List, le
 ghost use Rattle.std.specs.declared.option.Option.{Option};
 ghost use Rattle.std.specs.Io.{ReadsAtMost};
 ghost use Rattle.std.specs.Io.KnownBytes.{ReadConsumes, Consumes, IsAtEnd};
-ghost use Rattle.agent_link.specs.Counts.{Counted};
+ghost use Rattle.agent_link.specs.Counts.{counted};
 
 use crate::fault::Fault;
 use std::alloc::Global;
@@ -22,14 +22,14 @@ pub trait Source {
         requires { 0 < length buf.old }
         ensures bound { ReadsAtMost result buf.new }
         ensures bytes { ReadConsumes (left self.old) (left self.new) result buf.new }
-        ensures cause { Counted (IsErrOf result Fault.Failed) (faults self.old) (faults self.new) };
+        ensures cause { faults self.new ≡ counted result (faults self.old) };
 }
 
 /// All bytes of a source, or as soon as there are more than `limit`, those that came so far.
 pub fn read_all<S: Source>(alloc: Global, source: &mut S, limit: usize) -> Result<Vec<u8>, Fault>
     ensures bytes { IfOk result (λ v. Consumes (S.left source.old) (S.left source.new) v.items) }
     ensures whole { IfOk result (λ v. length v.items ≤ limit → IsAtEnd (S.left source.new)) }
-    ensures cause { Counted (IsErrOf result Fault.Failed) (S.faults source.old) (S.faults source.new) }
+    ensures cause { S.faults source.new ≡ counted result (S.faults source.old) }
 {
     let mut bytes = Vec::new(alloc);
     let mut buffer = [0u8; 4096];

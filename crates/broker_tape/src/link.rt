@@ -3,8 +3,8 @@
 ghost use Rattle.std.specs.Prelude.{◌≡◌, ◌≢◌, ℕ, ◌+◌, ◌^◌, ◌<◌, ◌≤◌, ◌↔◌, [], ◌∷◌, ◌++◌, length, drop, take, slice_get, true, false, Some, None, IfOk, IfSome, IsErrOf, OnOk, OnErr, Ok};
 ghost use Rattle.std.specs.Option.{option_map};
 ghost use Rattle.std.specs.Io.{WritesAtMost};
-ghost use Rattle.agent_link.specs.Counts.{Counted, raised, with_fault, with_end, with_nothing};
-ghost use Rattle.agent_link.specs.Wires.{after_open, after_send, after_recv, onto_last, FitsIn, IsFrontOf};
+ghost use Rattle.agent_link.specs.Counts.{counted, with_fault, with_end, with_nothing};
+ghost use Rattle.agent_link.specs.Wires.{after_open, after_send, after_recv, ended, silent, onto_last, FitsIn, IsFrontOf};
 ghost use Rattle.broker_tape.specs.Playing.{unplayed, closed, counts, opens, room_at, hears, present, fitting, room_behind, advance};
 
 use crate::played::{append_last, begin, front_of, next_item, next_opening, room_at};
@@ -95,9 +95,9 @@ impl Link for TapeLink {
     fn open(&mut self, _to: &str) -> Result<(), Fault>
         ensures taken { Some self.new.taken ≡ after_open (Some self.old.taken) result }
         ensures given { Some self.new.given ≡ after_open (Some self.old.given) result }
-        ensures cause { Counted (IsErrOf result Fault.Failed) self.old.faults self.new.faults }
-        ensures ends { self.old.ends ≤ self.new.ends }
-        ensures nothings { self.old.nothings ≤ self.new.nothings }
+        ensures cause { self.new.faults ≡ counted result self.old.faults }
+        ensures ends { self.new.ends ≡ self.old.ends }
+        ensures nothings { self.new.nothings ≡ self.old.nothings }
 
         // The tape goes on behind its next opening.
         ensures begun { OnOk result ((true, self.new.left) ≡ opens self.old.left) }
@@ -140,9 +140,9 @@ impl Link for TapeLink {
         ensures some { IfOk result (λ n. 0 < n) }
         ensures taken { Some self.new.taken ≡ after_send (Some self.old.taken) result bytes.now }
         ensures given { Some self.new.given ≡ Some self.old.given }
-        ensures cause { Counted (IsErrOf result Fault.Failed) self.old.faults self.new.faults }
-        ensures ends { self.old.ends ≤ self.new.ends }
-        ensures nothings { self.old.nothings ≤ self.new.nothings }
+        ensures cause { self.new.faults ≡ counted result self.old.faults }
+        ensures ends { self.new.ends ≡ self.old.ends }
+        ensures nothings { self.new.nothings ≡ self.old.nothings }
 
         // As much is taken as there is room for.
         ensures fits { IfOk result (λ n. n ≡ fitting self.old.room (length bytes.now)) }
@@ -177,10 +177,9 @@ impl Link for TapeLink {
         ensures bound { FitsIn result buf.new }
         ensures taken { Some self.new.taken ≡ Some self.old.taken }
         ensures given { Some self.new.given ≡ after_recv (Some self.old.given) result buf.new }
-        ensures cause { Counted (IsErrOf result Fault.Failed) self.old.faults self.new.faults }
-        ensures ends { Counted (result ≡ Ok Heard.End) self.old.ends self.new.ends }
-        ensures nothings { self.old.nothings ≤ self.new.nothings }
-        ensures nothing { result ≡ Ok Heard.Nothing → self.new.nothings ≡ raised self.old.nothings }
+        ensures cause { self.new.faults ≡ counted result self.old.faults }
+        ensures ends { self.new.ends ≡ ended result self.old.ends }
+        ensures nothings { self.new.nothings ≡ silent result self.old.nothings }
 
         // What comes is the next item, as far as it fits.
         ensures heard { IfOk result (λ h. (Some h, self.new.left) ≡ hears (length buf.old) self.old.left) }
@@ -235,9 +234,9 @@ impl Link for TapeLink {
     fn shut(&mut self)
         ensures taken { Some self.new.taken ≡ Some self.old.taken }
         ensures given { Some self.new.given ≡ Some self.old.given }
-        ensures faults { self.old.faults ≤ self.new.faults }
-        ensures ends { self.old.ends ≤ self.new.ends }
-        ensures nothings { self.old.nothings ≤ self.new.nothings }
+        ensures faults { self.new.faults ≡ self.old.faults }
+        ensures ends { self.new.ends ≡ self.old.ends }
+        ensures nothings { self.new.nothings ≡ self.old.nothings }
 
         // What the connection left unused is gone, and it takes nothing more.
         ensures left { self.new.left ≡ closed self.old.left }

@@ -4,7 +4,7 @@ ghost use Rattle.std.specs.Prelude.{◌≡◌, ℕ, ◌+◌, ◌*◌, ◌^◌, �
 ghost use Rattle.std.specs.List.{flat_map, AllByRecursion};
 ghost use Rattle.std.specs.Io.KnownBytes.{Appends};
 ghost use Rattle.hex.specs.Hex.{encode_lower};
-ghost use Rattle.agent_link.specs.Counts.{Counted};
+ghost use Rattle.agent_link.specs.Counts.{counted};
 ghost use Rattle.agent_link.specs.Writes.{Writes, AppendsFront};
 ghost use Rattle.mqtt_packet.specs.Spelling.{spelling, is_sound};
 ghost use Rattle.plain_text.specs.Escapes as escapes;
@@ -42,7 +42,7 @@ pub enum Part<'a> {
 pub fn write_parts<O: Sink>(out: &mut O, parts: &[Part<'_>]) -> Result<(), Fault>
     requires { AllByRecursion IsSoundPart parts.now }
     ensures text { Writes (O.written out.old) (O.written out.new) result (flat_map part_text parts.now) }
-    ensures cause { Counted (IsErrOf result Fault.Failed) (O.faults out.old) (O.faults out.new) }
+    ensures cause { O.faults out.new ≡ counted result (O.faults out.old) }
 {
     for part in parts {
         write_part(out, part)?;
@@ -53,7 +53,7 @@ pub fn write_parts<O: Sink>(out: &mut O, parts: &[Part<'_>]) -> Result<(), Fault
 fn write_part<O: Sink>(out: &mut O, part: &Part<'_>) -> Result<(), Fault>
     requires { IsSoundPart part.now }
     ensures text { Writes (O.written out.old) (O.written out.new) result (part_text part.now) }
-    ensures cause { Counted (IsErrOf result Fault.Failed) (O.faults out.old) (O.faults out.new) }
+    ensures cause { O.faults out.new ≡ counted result (O.faults out.old) }
 {
     match part {
         Part::Plain(text) => write_all(out, text),
@@ -69,7 +69,7 @@ fn write_part<O: Sink>(out: &mut O, part: &Part<'_>) -> Result<(), Fault>
 
 fn write_number<O: Sink>(out: &mut O, n: u64) -> Result<(), Fault>
     ensures text { Writes (O.written out.old) (O.written out.new) result (decimal n) }
-    ensures cause { Counted (IsErrOf result Fault.Failed) (O.faults out.old) (O.faults out.new) }
+    ensures cause { O.faults out.new ≡ counted result (O.faults out.old) }
 {
     let mut buffer = Buffer::new();
     write_all(out, buffer.format(n).as_bytes())
@@ -77,7 +77,7 @@ fn write_number<O: Sink>(out: &mut O, n: u64) -> Result<(), Fault>
 
 fn write_total<O: Sink>(out: &mut O, n: u128) -> Result<(), Fault>
     ensures text { Writes (O.written out.old) (O.written out.new) result (decimal n) }
-    ensures cause { Counted (IsErrOf result Fault.Failed) (O.faults out.old) (O.faults out.new) }
+    ensures cause { O.faults out.new ≡ counted result (O.faults out.old) }
 {
     let mut buffer = Buffer::new();
     write_all(out, buffer.format(n).as_bytes())
@@ -85,7 +85,7 @@ fn write_total<O: Sink>(out: &mut O, n: u128) -> Result<(), Fault>
 
 fn write_count<O: Sink>(out: &mut O, count: Option<u64>) -> Result<(), Fault>
     ensures text { Writes (O.written out.old) (O.written out.new) result (count_text count) }
-    ensures cause { Counted (IsErrOf result Fault.Failed) (O.faults out.old) (O.faults out.new) }
+    ensures cause { O.faults out.new ≡ counted result (O.faults out.old) }
 {
     match count {
         Some(n) => write_number(out, n),
@@ -95,7 +95,7 @@ fn write_count<O: Sink>(out: &mut O, count: Option<u64>) -> Result<(), Fault>
 
 fn write_payload<O: Sink>(out: &mut O, bytes: &[u8]) -> Result<(), Fault>
     ensures text { Writes (O.written out.old) (O.written out.new) result (payload_text bytes.now) }
-    ensures cause { Counted (IsErrOf result Fault.Failed) (O.faults out.old) (O.faults out.new) }
+    ensures cause { O.faults out.new ≡ counted result (O.faults out.old) }
 {
     match bytes {
         [] => write_all(out, b"-".as_slice()),
@@ -109,7 +109,7 @@ const PIECE: usize = 256;
 #[tactic(auto, using(crate::proofs::Piecewise::hex_more, crate::proofs::Piecewise::hex_stopped, crate::proofs::Piecewise::hex_all, crate::proofs::Piecewise::hex_none))]
 fn write_hex<O: Sink>(out: &mut O, bytes: &[u8]) -> Result<(), Fault>
     ensures text { Writes (O.written out.old) (O.written out.new) result (encode_lower bytes.now) }
-    ensures cause { Counted (IsErrOf result Fault.Failed) (O.faults out.old) (O.faults out.new) }
+    ensures cause { O.faults out.new ≡ counted result (O.faults out.old) }
 {
     let mut at = 0;
     while at < bytes.len() {
@@ -124,7 +124,7 @@ fn write_hex<O: Sink>(out: &mut O, bytes: &[u8]) -> Result<(), Fault>
 fn write_digits<O: Sink>(out: &mut O, piece: &[u8]) -> Result<(), Fault>
     requires { length piece.now ≤ 256 }
     ensures text { Writes (O.written out.old) (O.written out.new) result (encode_lower piece.now) }
-    ensures cause { Counted (IsErrOf result Fault.Failed) (O.faults out.old) (O.faults out.new) }
+    ensures cause { O.faults out.new ≡ counted result (O.faults out.old) }
 {
     let mut digits = [0u8; 2 * 256];
     let (text, _) = digits.split_at_mut(2 * piece.len());
@@ -135,7 +135,7 @@ fn write_digits<O: Sink>(out: &mut O, piece: &[u8]) -> Result<(), Fault>
 #[tactic(auto, using(crate::proofs::Piecewise::escaped_more, crate::proofs::Piecewise::escaped_stopped, crate::proofs::Piecewise::escaped_all, crate::proofs::Piecewise::escaped_none))]
 fn write_escaped<O: Sink>(out: &mut O, text: &[u8]) -> Result<(), Fault>
     ensures text { Writes (O.written out.old) (O.written out.new) result (escapes.escaped text.now) }
-    ensures cause { Counted (IsErrOf result Fault.Failed) (O.faults out.old) (O.faults out.new) }
+    ensures cause { O.faults out.new ≡ counted result (O.faults out.old) }
 {
     let mut at = 0;
     while at < text.len() {
@@ -153,7 +153,7 @@ fn write_run<O: Sink>(out: &mut O, text: &[u8]) -> Result<usize, Fault>
     ensures some { IfOk result (λ n. (0 < n) × (n ≤ length text.now)) }
     ensures ok { IfOk result (λ n. Appends (O.written out.old) (O.written out.new) (escapes.escaped (take n text.now))) }
     ensures err { OnErr result (AppendsFront (O.written out.old) (O.written out.new) (escapes.escaped text.now)) }
-    ensures cause { Counted (IsErrOf result Fault.Failed) (O.faults out.old) (O.faults out.new) }
+    ensures cause { O.faults out.new ≡ counted result (O.faults out.old) }
 {
     let run = plain_len(text);
     if run == 0 {
@@ -168,7 +168,7 @@ fn write_run<O: Sink>(out: &mut O, text: &[u8]) -> Result<usize, Fault>
 fn write_packet<O: Sink>(out: &mut O, packet: &Packet) -> Result<(), Fault>
     requires { is_sound packet.now ≡ true }
     ensures text { Writes (O.written out.old) (O.written out.new) result (encode_lower (spelling packet.now)) }
-    ensures cause { Counted (IsErrOf result Fault.Failed) (O.faults out.old) (O.faults out.new) }
+    ensures cause { O.faults out.new ≡ counted result (O.faults out.old) }
 {
     // Most packets are small, and a function clears its buffer each time.
     let len = spelled_len(packet);
@@ -186,7 +186,7 @@ fn write_packet_in<O: Sink, const N: usize>(out: &mut O, packet: &Packet) -> Res
     requires room { length (spelling packet.now) ≤ N }
     requires small { N < 2 ^ 63 }
     ensures text { Writes (O.written out.old) (O.written out.new) result (encode_lower (spelling packet.now)) }
-    ensures cause { Counted (IsErrOf result Fault.Failed) (O.faults out.old) (O.faults out.new) }
+    ensures cause { O.faults out.new ≡ counted result (O.faults out.old) }
 {
     let mut buffer = [0u8; N];
     let len = encode(packet, buffer.as_mut_slice()).unwrap();

@@ -3,7 +3,7 @@
 ghost use Rattle.std.specs.Prelude.{◌≡◌, ◌++◌, true, codes, decimal, IsErrOf};
 ghost use Rattle.std.specs.List.{flat_map, AllByRecursion};
 ghost use Rattle.hex.specs.Hex.{encode_lower};
-ghost use Rattle.agent_link.specs.Counts.{Counted};
+ghost use Rattle.agent_link.specs.Counts.{counted};
 ghost use Rattle.agent_link.specs.Writes.{Writes};
 ghost use Rattle.agent_journal.specs.Sound.{IsSoundEntry, IsSoundCause, IsSoundEffect};
 ghost use Rattle.journal_text.specs.Texts as texts;
@@ -20,7 +20,7 @@ use mqtt_packet::{Ask, Qos};
 pub fn write_entry<O: Sink>(out: &mut O, entry: &Entry) -> Result<(), Fault>
     requires { IsSoundEntry entry.now }
     ensures text { Writes (O.written out.old) (O.written out.new) result (texts.entry_text entry.now) }
-    ensures cause { Counted (IsErrOf result Fault.Failed) (O.faults out.old) (O.faults out.new) }
+    ensures cause { O.faults out.new ≡ counted result (O.faults out.old) }
 {
     write_line(out, entry)?;
     write_effects(out, entry.effects.as_slice())
@@ -29,7 +29,7 @@ pub fn write_entry<O: Sink>(out: &mut O, entry: &Entry) -> Result<(), Fault>
 fn write_line<O: Sink>(out: &mut O, entry: &Entry) -> Result<(), Fault>
     requires { IsSoundCause entry.now.cause }
     ensures text { Writes (O.written out.old) (O.written out.new) result (texts.cause_line entry.now.at entry.now.cause) }
-    ensures cause { Counted (IsErrOf result Fault.Failed) (O.faults out.old) (O.faults out.new) }
+    ensures cause { O.faults out.new ≡ counted result (O.faults out.old) }
 {
     let at = entry.at;
     match &entry.cause {
@@ -84,7 +84,7 @@ fn write_take<O: Sink>(
     request: &Request,
 ) -> Result<(), Fault>
     ensures text { Writes (O.written out.old) (O.written out.new) result (texts.take_line at task seq request.now) }
-    ensures cause { Counted (IsErrOf result Fault.Failed) (O.faults out.old) (O.faults out.new) }
+    ensures cause { O.faults out.new ≡ counted result (O.faults out.old) }
 {
     match request {
         Request::Publish {
@@ -117,7 +117,7 @@ fn write_publish<'a, O: Sink>(
     payload: &'a Blob,
 ) -> Result<(), Fault>
     ensures text { Writes (O.written out.old) (O.written out.new) result (texts.publish_line at task seq qos topic.now payload.now) }
-    ensures cause { Counted (IsErrOf result Fault.Failed) (O.faults out.old) (O.faults out.new) }
+    ensures cause { O.faults out.new ≡ counted result (O.faults out.old) }
 {
     write_parts(
         out,
@@ -142,7 +142,7 @@ fn write_publish<'a, O: Sink>(
 /// The line of a Take up to its request, and then a word.
 fn write_word<O: Sink>(out: &mut O, at: u64, task: u32, seq: u32, word: &[u8]) -> Result<(), Fault>
     ensures text { Writes (O.written out.old) (O.written out.new) result (texts.word_line at task seq word.now) }
-    ensures cause { Counted (IsErrOf result Fault.Failed) (O.faults out.old) (O.faults out.new) }
+    ensures cause { O.faults out.new ≡ counted result (O.faults out.old) }
 {
     write_parts(
         out,
@@ -166,7 +166,7 @@ fn write_subscribe<O: Sink>(
     asks: &[Ask],
 ) -> Result<(), Fault>
     ensures text { Writes (O.written out.old) (O.written out.new) result (texts.subscribe_line at task seq asks.now) }
-    ensures cause { Counted (IsErrOf result Fault.Failed) (O.faults out.old) (O.faults out.new) }
+    ensures cause { O.faults out.new ≡ counted result (O.faults out.old) }
 {
     write_word(out, at, task, seq, b" subscribe")?;
     write_asks(out, asks)?;
@@ -175,7 +175,7 @@ fn write_subscribe<O: Sink>(
 
 fn write_asks<O: Sink>(out: &mut O, asks: &[Ask]) -> Result<(), Fault>
     ensures text { Writes (O.written out.old) (O.written out.new) result (flat_map texts.ask_text asks.now) }
-    ensures cause { Counted (IsErrOf result Fault.Failed) (O.faults out.old) (O.faults out.new) }
+    ensures cause { O.faults out.new ≡ counted result (O.faults out.old) }
 {
     for ask in asks {
         write_ask(out, ask)?;
@@ -185,7 +185,7 @@ fn write_asks<O: Sink>(out: &mut O, asks: &[Ask]) -> Result<(), Fault>
 
 fn write_ask<O: Sink>(out: &mut O, ask: &Ask) -> Result<(), Fault>
     ensures text { Writes (O.written out.old) (O.written out.new) result (texts.ask_text ask.now) }
-    ensures cause { Counted (IsErrOf result Fault.Failed) (O.faults out.old) (O.faults out.new) }
+    ensures cause { O.faults out.new ≡ counted result (O.faults out.old) }
 {
     let qos = qos_word(ask.qos).as_bytes();
     write_parts(
@@ -207,7 +207,7 @@ fn write_unsubscribe<O: Sink>(
     filters: &[Text],
 ) -> Result<(), Fault>
     ensures text { Writes (O.written out.old) (O.written out.new) result (texts.unsubscribe_line at task seq filters.now) }
-    ensures cause { Counted (IsErrOf result Fault.Failed) (O.faults out.old) (O.faults out.new) }
+    ensures cause { O.faults out.new ≡ counted result (O.faults out.old) }
 {
     write_word(out, at, task, seq, b" unsubscribe")?;
     write_filters(out, filters)?;
@@ -216,7 +216,7 @@ fn write_unsubscribe<O: Sink>(
 
 fn write_filters<O: Sink>(out: &mut O, filters: &[Text]) -> Result<(), Fault>
     ensures text { Writes (O.written out.old) (O.written out.new) result (flat_map texts.filter_text filters.now) }
-    ensures cause { Counted (IsErrOf result Fault.Failed) (O.faults out.old) (O.faults out.new) }
+    ensures cause { O.faults out.new ≡ counted result (O.faults out.old) }
 {
     for filter in filters {
         write_filter(out, filter)?;
@@ -226,14 +226,14 @@ fn write_filters<O: Sink>(out: &mut O, filters: &[Text]) -> Result<(), Fault>
 
 fn write_filter<O: Sink>(out: &mut O, filter: &Text) -> Result<(), Fault>
     ensures text { Writes (O.written out.old) (O.written out.new) result (texts.filter_text filter.now) }
-    ensures cause { Counted (IsErrOf result Fault.Failed) (O.faults out.old) (O.faults out.new) }
+    ensures cause { O.faults out.new ≡ counted result (O.faults out.old) }
 {
     write_parts(out, &[Part::Plain(b" "), Part::Escaped(filter.as_bytes())])
 }
 
 fn write_broke<O: Sink>(out: &mut O, at: u64, why: Why) -> Result<(), Fault>
     ensures text { Writes (O.written out.old) (O.written out.new) result (texts.broke_line at why) }
-    ensures cause { Counted (IsErrOf result Fault.Failed) (O.faults out.old) (O.faults out.new) }
+    ensures cause { O.faults out.new ≡ counted result (O.faults out.old) }
 {
     write_parts(
         out,
@@ -276,7 +276,7 @@ fn why_count(why: Why) -> Option<u64>
 fn write_effects<O: Sink>(out: &mut O, effects: &[Effect]) -> Result<(), Fault>
     requires { AllByRecursion IsSoundEffect effects.now }
     ensures text { Writes (O.written out.old) (O.written out.new) result (flat_map texts.effect_text effects.now) }
-    ensures cause { Counted (IsErrOf result Fault.Failed) (O.faults out.old) (O.faults out.new) }
+    ensures cause { O.faults out.new ≡ counted result (O.faults out.old) }
 {
     for effect in effects {
         write_effect(out, effect)?;
@@ -287,7 +287,7 @@ fn write_effects<O: Sink>(out: &mut O, effects: &[Effect]) -> Result<(), Fault>
 fn write_effect<O: Sink>(out: &mut O, effect: &Effect) -> Result<(), Fault>
     requires { IsSoundEffect effect.now }
     ensures text { Writes (O.written out.old) (O.written out.new) result (texts.effect_text effect.now) }
-    ensures cause { Counted (IsErrOf result Fault.Failed) (O.faults out.old) (O.faults out.new) }
+    ensures cause { O.faults out.new ≡ counted result (O.faults out.old) }
 {
     match effect {
         Effect::Send { packet } => write_parts(
@@ -326,7 +326,7 @@ fn write_effect<O: Sink>(out: &mut O, effect: &Effect) -> Result<(), Fault>
 
 fn write_done<O: Sink>(out: &mut O, task: u32, seq: u32, outcome: &Outcome) -> Result<(), Fault>
     ensures text { Writes (O.written out.old) (O.written out.new) result (texts.done_line task seq outcome.now) }
-    ensures cause { Counted (IsErrOf result Fault.Failed) (O.faults out.old) (O.faults out.new) }
+    ensures cause { O.faults out.new ≡ counted result (O.faults out.old) }
 {
     write_parts(
         out,

@@ -2,7 +2,7 @@
 
 ghost use Rattle.std.specs.Prelude.{◌≡◌, ◌++◌, ◌+◌, ◌^◌, ◌<◌, reverse, count_by, IfOk, IsErrOf};
 ghost use Rattle.std.specs.List.{flat_map, AllByRecursion};
-ghost use Rattle.agent_link.specs.Counts.{Counted};
+ghost use Rattle.agent_link.specs.Counts.{counted};
 ghost use Rattle.agent_link.specs.Writes.{Writes};
 ghost use Rattle.agent_journal.specs.Sound.{IsSoundEntry};
 ghost use Rattle.agent_journal.specs.Projections as projections;
@@ -39,7 +39,7 @@ pub(crate) fn report_of(
 fn write_journal<O: Sink>(out: &mut O, journal: &[Entry]) -> Result<(), Fault>
     requires { AllByRecursion IsSoundEntry journal.now }
     ensures text { Writes (O.written out.old) (O.written out.new) result (journal_text journal.now) }
-    ensures cause { Counted (IsErrOf result Fault.Failed) (O.faults out.old) (O.faults out.new) }
+    ensures cause { O.faults out.new ≡ counted result (O.faults out.old) }
 {
     for entry in journal {
         write_entry(out, entry)?;
@@ -51,7 +51,7 @@ fn write_journal<O: Sink>(out: &mut O, journal: &[Entry]) -> Result<(), Fault>
 fn write_task_line<O: Sink>(out: &mut O, journal: &[Entry], messages: u128) -> Result<(), Fault>
     requires { messages ≡ projections.messages_of 0 (reverse journal.now) }
     ensures text { Writes (O.written out.old) (O.written out.new) result (task_line 0 (reverse journal.now)) }
-    ensures cause { Counted (IsErrOf result Fault.Failed) (O.faults out.old) (O.faults out.new) }
+    ensures cause { O.faults out.new ≡ counted result (O.faults out.old) }
 {
     let tally = tally_of(journal);
     write_parts(
@@ -77,7 +77,7 @@ fn write_kinds_line<O: Sink>(
     journal: &[Entry],
 ) -> Result<(), Fault>
     ensures text { Writes (O.written out.old) (O.written out.new) result (kinds_line 0 thing.now journal.now) }
-    ensures cause { Counted (IsErrOf result Fault.Failed) (O.faults out.old) (O.faults out.new) }
+    ensures cause { O.faults out.new ≡ counted result (O.faults out.old) }
 {
     match thing {
         Some(thing) => write_kinds(out, thing.as_str(), journal),
@@ -88,7 +88,7 @@ fn write_kinds_line<O: Sink>(
 #[tactic(auto, unfolding(crate::specs::Answers::kinds_of))]
 fn write_kinds<O: Sink>(out: &mut O, thing: &str, journal: &[Entry]) -> Result<(), Fault>
     ensures text { Writes (O.written out.old) (O.written out.new) result (kinds_of 0 thing.now journal.now) }
-    ensures cause { Counted (IsErrOf result Fault.Failed) (O.faults out.old) (O.faults out.new) }
+    ensures cause { O.faults out.new ≡ counted result (O.faults out.old) }
 {
     let kinds = kinds_of(thing, journal, 0);
     write_parts(
@@ -107,7 +107,7 @@ fn write_kinds<O: Sink>(out: &mut O, thing: &str, journal: &[Entry]) -> Result<(
 
 fn write_last_line<O: Sink>(out: &mut O, ending: Ending) -> Result<(), Fault>
     ensures text { Writes (O.written out.old) (O.written out.new) result (last_line ending) }
-    ensures cause { Counted (IsErrOf result Fault.Failed) (O.faults out.old) (O.faults out.new) }
+    ensures cause { O.faults out.new ≡ counted result (O.faults out.old) }
 {
     write_parts(
         out,

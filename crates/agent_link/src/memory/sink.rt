@@ -3,7 +3,7 @@
 ghost use Rattle.std.specs.Prelude.{◌≡◌, ◌<◌, ◌↔◌, [], length, Contains, Some, IfOk, IsErrOf};
 ghost use Rattle.std.specs.Io.{WritesAtMost};
 ghost use Rattle.std.specs.Io.KnownBytes.{WriteAppends};
-ghost use Rattle.agent_link.specs.Counts.{Counted, raised};
+ghost use Rattle.agent_link.specs.Counts.{counted, raised};
 
 use crate::fault::Fault;
 use crate::memory::plan::FailPlan;
@@ -54,7 +54,7 @@ impl Sink for MemSink {
         ensures bound { WritesAtMost result bytes.now }
         ensures some { IfOk result (λ n. n ≡ length bytes.now) }
         ensures bytes { WriteAppends (Some self.old.bytes) (Some self.new.bytes) result bytes.now }
-        ensures cause { Counted (IsErrOf result Fault.Failed) self.old.plan.faults self.new.plan.faults }
+        ensures cause { self.new.plan.faults ≡ counted result self.old.plan.faults }
         ensures failed { IsErrOf result Fault.Failed ↔ Contains self.old.plan.fails self.old.plan.call }
         ensures calls { (self.new.plan.fails ≡ self.old.plan.fails) × (self.new.plan.call ≡ raised self.old.plan.call) }
     {

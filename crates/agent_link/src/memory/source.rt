@@ -3,7 +3,7 @@
 ghost use Rattle.std.specs.Prelude.{◌≡◌, ◌<◌, ◌↔◌, length, take, drop, min, Contains, Some, IfOk, OnOk, OnErr, IsErrOf};
 ghost use Rattle.std.specs.Io.{ReadsAtMost};
 ghost use Rattle.std.specs.Io.KnownBytes.{ReadConsumes};
-ghost use Rattle.agent_link.specs.Counts.{Counted, raised};
+ghost use Rattle.agent_link.specs.Counts.{counted, raised};
 
 use crate::fault::Fault;
 use crate::memory::plan::FailPlan;
@@ -51,7 +51,7 @@ impl Source for MemSource {
         requires { 0 < length buf.old }
         ensures bound { ReadsAtMost result buf.new }
         ensures bytes { ReadConsumes (Some self.old.bytes) (Some self.new.bytes) result buf.new }
-        ensures cause { Counted (IsErrOf result Fault.Failed) self.old.plan.faults self.new.plan.faults }
+        ensures cause { self.new.plan.faults ≡ counted result self.old.plan.faults }
         ensures failed { IsErrOf result Fault.Failed ↔ Contains self.old.plan.fails self.old.plan.call }
         ensures calls { (self.new.plan.fails ≡ self.old.plan.fails) × (self.new.plan.call ≡ raised self.old.plan.call) }
         ensures count { IfOk result (λ n. n ≡ min (length self.old.bytes) (length buf.old)) }

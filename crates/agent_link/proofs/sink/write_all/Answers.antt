@@ -1,4 +1,4 @@
-use Rattle.std.proofs.Common.{List, ℕ, ◌++◌, take, subst, arith}
+use Rattle.std.proofs.Common.{List, ℕ, ◌++◌, ◌∙◌, take, subst, arith, rules}
 use Rattle.std.specs.Io.KnownBytes.{Appends}
 use Rattle.std.proofs.KnownBytes.{Appends-trans}
 use Rattle.std.proofs.Math.Seq.{take-add}
@@ -11,5 +11,5 @@ loop-at-preserved g c = record {
       rw take-add
       (subst (λ (rest : List ℕ). Appends (g.O.Sink.written c.args.out.now) (g.O.Sink.written c.write.new.self) (take c.loop-at.at c.args.bytes.now ++ take c.in_ok-at.field-0 rest))
       c.split_at.ensures.back (Appends-trans _ _ _ _ _ c.loop-at.invariant.so_far c.in_ok-at.ensures.bytes));
-  later = omega (arith, c.write.ensures.cause.later);
+  faults = search rules;
 }

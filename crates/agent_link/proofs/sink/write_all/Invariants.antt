@@ -1,5 +1,5 @@
 -- So many of the bytes were written.
-use Rattle.std.proofs.Common.{length, ◌-◌, ◌≤◌, take}
+use Rattle.std.proofs.Common.{◌≡◌, length, ◌-◌, ◌≤◌, take}
 use Rattle.std.specs.Io.KnownBytes.{Appends}
 use Rattle.agent_link.proofs.sink.write_all.Given as goal
 
@@ -7,7 +7,7 @@ abbrev pub invariant-loop-at : goal.invariant-loop-at
 invariant-loop-at g l = record {
   within : l.at ≤ length l.bytes;
   so_far : Appends (g.O.Sink.written l.fn.out) (g.O.Sink.written l.out) (take l.at l.bytes);
-  later : g.O.Sink.faults l.fn.out ≤ g.O.Sink.faults l.out;
+  faults : g.O.Sink.faults l.out ≡ g.O.Sink.faults l.fn.out;
 }
 
 abbrev pub decreases-loop-at : goal.decreases-loop-at

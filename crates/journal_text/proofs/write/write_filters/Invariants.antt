@@ -1,5 +1,5 @@
 -- So many filters were written.
-use Rattle.std.proofs.Common.{◌≤◌, take}
+use Rattle.std.proofs.Common.{◌≡◌, ◌≤◌, take}
 use Rattle.std.specs.List.{flat_map}
 use Rattle.std.specs.Io.KnownBytes.{Appends}
 use Rattle.journal_text.specs.Texts.{filter_text}
@@ -8,5 +8,5 @@ use Rattle.journal_text.proofs.write.write_filters.Given as goal
 abbrev pub invariant-loop-filter : goal.invariant-loop-filter
 invariant-loop-filter g l = record {
   so_far : Appends (g.O.Sink.written l.fn.out) (g.O.Sink.written l.out) (flat_map filter_text (take l.filter-index l.filters));
-  later : g.O.Sink.faults l.fn.out ≤ g.O.Sink.faults l.out;
+  faults : g.O.Sink.faults l.out ≡ g.O.Sink.faults l.fn.out;
 }
