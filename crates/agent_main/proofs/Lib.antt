@@ -1,3 +1,1 @@
-pub mod Headline
-pub mod Counts
-pub mod Told
+pub mod Picked

@@ -1,17 +1,9 @@
 //! Domeweave: an MQTT 3.1.1 agent for firmware developers.
 #![tactic(auto)]
 
-ghost use Rattle.std.specs.Prelude.{◌≡◌, ◌≢◌, map, Some, None, IfSome, IfOk};
+ghost use Rattle.std.specs.Prelude.{◌≡◌, map, IfOk};
 ghost use Rattle.std.specs.String.{string_bytes};
-ghost use Rattle.agent_link.specs.Counts.{Rose};
-ghost use Rattle.command_answers.specs.Answers.{Answers};
-ghost use Rattle.command_words.specs.Commands.{words_of};
-ghost use Rattle.command_words.specs.declared.words.RunWords.{RunWords};
-ghost use Rattle.command_words.specs.declared.words.Words.TheVariants.{Replay};
-ghost use Rattle.agent_main.specs.Answers.{whole_answer};
-ghost use Rattle.agent_main.specs.Headline.{HasRun, PrintsReplay};
 
-mod lines;
 mod std_sink;
 mod std_source;
 mod top;
@@ -19,7 +11,6 @@ mod top;
 use crate::std_sink::StdSink;
 use crate::std_source::StdSource;
 use crate::top::top;
-use agent_link::{Sink, Source};
 use command_words::USAGE;
 use std::alloc::{AllocError, Global};
 use std::process::ExitCode;
@@ -29,12 +20,19 @@ use std::{env, io};
 /// The status of words that have no reading.
 const NO_WORDS: u8 = 1;
 
+/// The status of want of memory.
+const NO_MEMORY: u8 = 7;
+
 fn main(rt: HostRuntime) -> ExitCode {
     let mut source = StdSource::new(rt.reader());
     let mut sink = StdSink::new(io::writer(&rt));
-    let status = match arguments(&rt, rt.alloc()) {
-        Ok(arguments) => run(rt.alloc(), arguments.as_slice(), &mut source, &mut sink),
-        Err(_) => 7,
+    let alloc = rt.alloc();
+    let status = match arguments(&rt, alloc) {
+        Ok(arguments) => match words_in(alloc, arguments.as_slice()) {
+            Ok(words) => top(alloc, words.as_slice(), &mut source, &mut sink),
+            Err(_) => NO_MEMORY,
+        },
+        Err(_) => NO_MEMORY,
     };
     if status == NO_WORDS {
         // A person who typed a wrong word sees what there is. Nothing depends on it.
@@ -52,22 +50,6 @@ fn arguments(rt: &(impl Env + AllocGlobal), alloc: Global) -> Result<Vec<String>
         }
     }
     Ok(words)
-}
-
-/// Runs the command that the arguments spell, as [`top`] says.
-fn run<S: Source, O: Sink>(alloc: Global, arguments: &[String], source: &mut S, sink: &mut O) -> u8
-    ensures answer { IfSome (S.left source.old) (λ text. result ≢ 9 →
-        Answers result (O.written sink.old) (O.written sink.new) (whole_answer (map string_bytes arguments.now) text)) }
-    ensures history { IfSome (S.left source.old) (λ text. HasRun result → (w : RunWords) → words_of (map string_bytes arguments.now) ≡ Some (Replay w) →
-        PrintsReplay w text result (O.written sink.old) (O.written sink.new)) }
-    ensures words { result ≡ 1 → words_of (map string_bytes arguments.now) ≡ None }
-    ensures source_fault { result ≡ 9 → Rose (S.faults source.old) (S.faults source.new) }
-    ensures sink_fault { result ≡ 8 → Rose (O.faults sink.old) (O.faults sink.new) }
-{
-    match words_in(alloc, arguments) {
-        Ok(words) => top(alloc, words.as_slice(), source, sink),
-        Err(_) => 7,
-    }
 }
 
 /// The arguments as words.

@@ -7,6 +7,15 @@ use Rattle.agent_script.specs.declared.script.Step.{Step}
 use Rattle.agent_script.specs.declared.script.Step.TheVariants as steps
 use Rattle.agent_script.specs.declared.script.Script.{Script}
 
+-- it speaks of no shadow and of no job
+abbrev pub IsPlainStep : Step → Type 0
+IsPlainStep (steps.Shadow op name payload) = ⊥
+IsPlainStep (steps.Jobs op job payload) = ⊥
+IsPlainStep _ = Unit {0}
+
+abbrev pub IsPlainLine : Line → Type 0
+IsPlainLine line = IsPlainStep line.step
+
 -- what a line asks of the agent
 abbrev pub asked_by : Step → List Request
 asked_by (steps.Do request) = request ∷ []

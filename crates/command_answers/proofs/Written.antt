@@ -1,35 +1,41 @@
--- What a text that was written, or a front of it, says of the answer.
-use Rattle.std.proofs.Common.{◌≡◌, ◌⊎◌, ℕ, List, Option, Result, Ok, Err, refl, sym, ◌∙◌, arith, inl, inr}
-use Rattle.std.specs.Prelude.{IsErrOf}
-use Rattle.agent_link.specs.Counts.{Counted, Rose}
-use Rattle.agent_link.specs.Writes.{AppendsFront, Writes}
+-- What a text that was written, or a front of it, says of a command's end.
+use Rattle.std.proofs.Common.{◌≡◌, ◌⊎◌, ℕ, List, Option, Result, Ok, Err, refl, sym, ◌∙◌, subst, arith, inl, inr, true, false, cond, ap}
+use Rattle.std.specs.Prelude.{◌==◌}
+use Rattle.std.proofs.lemmas.Bool.{ne_eqb}
+use Rattle.agent_link.specs.Counts.{counted, raised}
+use Rattle.agent_link.specs.Writes.{Writes}
 use Rattle.agent_link.specs.declared.fault.Fault.{Fault}
 use Rattle.agent_link.specs.declared.fault.Fault.TheVariants as faults
-use Rattle.command_answers.specs.Answers.{Answers, IsPlain, answer, exit_status}
+use Rattle.command_answers.specs.Answers.{Ends, IsPlain, answer, exit_status, sink_now}
 
-by_result : (r : Result (Unit {0}) Fault) (status : ℕ) (old new : Option (List ℕ)) (text : List ℕ) → Writes old new r text → Answers (exit_status r status) old new (answer status text)
-by_result (Ok u) status old new text h = record { whole = λ n m. h; status = λ n m. refl }
-by_result (Err faults.Failed) status old new text h = record { whole = λ n m. absurd (m refl); status = λ n m. absurd (m refl) }
-by_result (Err faults.NoMemory) status old new text h = record { whole = λ n m. absurd (n refl); status = λ n m. absurd (n refl) }
+by_result : (r : Result (Unit {0}) Fault) (status : ℕ) (old new : Option (List ℕ)) (before now : ℕ) (text : List ℕ) → IsPlain status → Writes old new r text → now ≡ counted r before
+    → Ends (exit_status r status) (sink_now old before) (sink_now new now) (answer status text)
+by_result (Ok u) status old new before now text plain h count = record {
+  whole = λ n m. h;
+  told = λ n m. refl;
+  memory = λ e. absurd (plain.not_memory e);
+  sink = λ e. absurd (plain.not_sink e);
+  faults = count ∙ ap (λ b. cond b (raised before) before) (sym (ne_eqb status 8 plain.not_sink));
+}
+by_result (Err faults.Failed) status old new before now text plain h count = record {
+  whole = λ n m. absurd (m refl);
+  told = λ n m. absurd (m refl);
+  memory = λ e. absurd (omega (arith, e));
+  sink = λ e. h;
+  faults = count;
+}
+by_result (Err faults.NoMemory) status old new before now text plain h count = record {
+  whole = λ n m. absurd (n refl);
+  told = λ n m. absurd (n refl);
+  memory = λ e. h;
+  sink = λ e. absurd (omega (arith, e));
+  faults = count;
+}
 
--- the whole answer was given, unless memory or the sink failed
-pub answered : (result : ℕ) (r : Result (Unit {0}) Fault) (status : ℕ) (old new : Option (List ℕ)) (text : List ℕ) → result ≡ exit_status r status → Writes old new r text → Answers result old new (answer status text)
-answered result r status old new text e h = rw e (by_result r status old new text h)
-
--- a sink that failed, or had no memory, has taken a front
-pub front : (result : ℕ) (r : Result (Unit {0}) Fault) (status : ℕ) (old new : Option (List ℕ)) (text : List ℕ) → result ≡ exit_status r status → IsPlain status → Writes old new r text → result ≡ 8 → AppendsFront old new text
-front result (Ok u) status old new text e plain h eight = absurd (plain.not_sink (sym e ∙ eight))
-front result (Err fault) status old new text e plain h eight = h
-
-pub front_without_memory : (result : ℕ) (r : Result (Unit {0}) Fault) (status : ℕ) (old new : Option (List ℕ)) (text : List ℕ) → result ≡ exit_status r status → IsPlain status → Writes old new r text → result ≡ 7 → AppendsFront old new text
-front_without_memory result (Ok u) status old new text e plain h seven = absurd (plain.not_memory (sym e ∙ seven))
-front_without_memory result (Err fault) status old new text e plain h seven = h
-
--- status 8 comes of a fault of the sink
-pub failed : (result : ℕ) (r : Result (Unit {0}) Fault) (status before now : ℕ) → result ≡ exit_status r status → IsPlain status → Counted (IsErrOf r faults.Failed) before now → result ≡ 8 → Rose before now
-failed result (Ok u) status before now e plain h eight = absurd (plain.not_sink (sym e ∙ eight))
-failed result (Err faults.Failed) status before now e plain h eight = h.rose refl
-failed result (Err faults.NoMemory) status before now e plain h eight = absurd (omega (arith, e, eight))
+-- the whole text was written, or a front of it where the sink failed or had no memory
+pub ends : (result : ℕ) (r : Result (Unit {0}) Fault) (status : ℕ) (old new : Option (List ℕ)) (before now : ℕ) (text : List ℕ) → result ≡ exit_status r status → IsPlain status → Writes old new r text
+    → now ≡ counted r before → Ends result (sink_now old before) (sink_now new now) (answer status text)
+ends result r status old new before now text e plain h count = rw e (by_result r status old new before now text plain h count)
 
 pub one_of : (result : ℕ) (r : Result (Unit {0}) Fault) (status : ℕ) → result ≡ exit_status r status → (result ≡ status) ⊎ (result ≡ 7) ⊎ (result ≡ 8)
 one_of result (Ok u) status e = inl e

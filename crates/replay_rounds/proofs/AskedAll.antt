@@ -1,5 +1,5 @@
 -- A replay takes what its script asks.
-use Rattle.std.proofs.Common.{◌≡◌, ℕ, zero, suc, ◌+◌, ◌≤◌, Bool, true, false, cond, List, [], ◌∷◌, ◌++◌, length, Option, Some, None, is_some, refl, sym, ap, ◌∙◌, arith, append-nil, length-append}
+use Rattle.std.proofs.Common.{◌≡◌, ℕ, zero, suc, ◌+◌, ◌≤◌, Bool, true, false, cond, List, [], ◌∷◌, ◌++◌, length, Option, Some, None, is_some, refl, sym, ap, ◌∙◌, subst, arith, append-nil, length-append}
 use Rattle.std.specs.Prelude.{◌&&◌, nat_eq}
 use Rattle.std.specs.List.{AllByRecursion}
 use Rattle.agent_link.specs.Clocks.{after_reading}
@@ -22,10 +22,10 @@ use Rattle.agent_table.specs.Sizes.{Sizes}
 use Rattle.replay_rounds.specs.Asked.{IsValidLine, leave_of, taken_and_left}
 use Rattle.replay_rounds.specs.World.{World, phase_in}
 use Rattle.replay_rounds.specs.Rounds.{round, has_ended, after, begun}
-use Rattle.replay_rounds.specs.Bound.{bound, finished}
+use Rattle.replay_rounds.specs.Laws.{ReplaysTakeAll}
 use Rattle.agent_table.specs.Endings.{ending_of}
 use Rattle.replay_rounds.proofs.Asked.{IsAsking, GoesOn, acts_go_on, none_asked}
-use Rattle.replay_rounds.proofs.Ends.{IsSteady, round_steady, begun_steady, next_time, replays_end}
+use Rattle.replay_rounds.proofs.Ends.{IsSteady, round_steady, begun_steady, next_time}
 use Rattle.replay_rounds.proofs.Moments.{timely_kept}
 
 -- a round takes what is asked for
@@ -58,15 +58,20 @@ ended_left w e = by (is_off (phase_in w)) (has_left 0 w.past) e
     by true left e = e
     by false left e = absurd (cc e)
 
-pub replays_take_all : (setup : Setup) (sizes : Sizes) (tick : ℕ) (lines : List Line) (items : List Item) → setup.tasks ≡ 1 → AllByRecursion IsValidLine lines
-    → requests_of 0 (finished (begun setup sizes tick lines items)).past ≡ asked_in 0 lines ++ requests.Leave ∷ []
-replays_take_all setup sizes tick lines items one valid =
+all_taken_after : (n : ℕ) (setup : Setup) (sizes : Sizes) (tick : ℕ) (lines : List Line) (items : List Item) → setup.tasks ≡ 1 → AllByRecursion IsValidLine lines
+    → (let v = after n (begun setup sizes tick lines items) in has_ended v ≡ true → requests_of 0 v.past ≡ asked_in 0 lines ++ requests.Leave ∷ [])
+all_taken_after n setup sizes tick lines items one valid ended =
     let w = begun setup sizes tick lines items in
-    let v = finished w in
-    let goes = after_goes_on (bound w) w (begun_steady setup sizes tick lines items one) (record { valid = valid; none_behind = λ e. absurd (cc e) }) in
-    let left = ended_left v (replays_end setup sizes tick lines items one) in
+    let v = after n w in
+    let goes = after_goes_on n w (begun_steady setup sizes tick lines items one) (record { valid = valid; none_behind = λ e. absurd (cc e) }) in
+    let left = ended_left v ended in
     let none = goes.asking.none_behind left in
     sym (append-nil (requests_of 0 v.past)) ∙ sym (λ i. requests_of 0 v.past ++ (asked_in 0 (none i) ++ leave_of (left i))) ∙ goes.total
+
+pub replays_take_all : ReplaysTakeAll
+replays_take_all setup sizes tick lines items w one valid leads =
+    subst (λ (v : World). requests_of 0 v.past ≡ asked_in 0 lines ++ requests.Leave ∷ []) leads.is
+    (all_taken_after leads.rounds setup sizes tick lines items one valid (ap has_ended leads.is ∙ leads.ended))
 
 -- ---- How many requests are taken
 

@@ -15,6 +15,8 @@ use Rattle.agent_table.specs.Histories.{readings, due_by}
 use Rattle.agent_table.specs.Sizes.{Sizes}
 use Rattle.replay_rounds.specs.World.{World, phase_in}
 use Rattle.replay_rounds.specs.Rounds.{acts, acts_by, acts_in, round, has_ended, after, begun}
+use Rattle.replay_rounds.specs.Laws.{ReplaysEnd}
+use Rattle.replay_rounds.specs.Plays.{LeadsTo}
 use Rattle.replay_rounds.specs.Bound.{bound, finished}
 use Rattle.replay_rounds.proofs.Dues.{NoneDue, none_due, dues_fewer}
 use Rattle.replay_rounds.proofs.Kept.{acts_on}
@@ -135,6 +137,10 @@ finished_round w h going = by (bound w) refl
 pub begun_steady : (setup : Setup) (sizes : Sizes) (tick : ℕ) (lines : List Line) (items : List Item) → setup.tasks ≡ 1 → IsSteady (begun setup sizes tick lines items)
 begun_steady setup sizes tick lines items one = record { timely = record { time = omega arith; one = one; fits = omega arith }; calls = omega arith }
 
-pub replays_end : (setup : Setup) (sizes : Sizes) (tick : ℕ) (lines : List Line) (items : List Item) → setup.tasks ≡ 1 → has_ended (finished (begun setup sizes tick lines items)) ≡ true
+pub replays_end : (setup : Setup) (sizes : Sizes) (tick : ℕ) (lines : List Line) (items : List Item) → setup.tasks ≡ 1 → LeadsTo (begun setup sizes tick lines items) (finished (begun setup sizes tick lines items))
 replays_end setup sizes tick lines items one =
-    let w = begun setup sizes tick lines items in ends_by_rounds (bound w) w (begun_steady setup sizes tick lines items one) (omega arith)
+    let w = begun setup sizes tick lines items in
+    record { rounds = bound w; is = refl; ended = ends_by_rounds (bound w) w (begun_steady setup sizes tick lines items one) (omega arith) }
+
+pub replays_lead_on : ReplaysEnd
+replays_lead_on setup sizes tick lines items one = (finished (begun setup sizes tick lines items), replays_end setup sizes tick lines items one)

@@ -20,7 +20,6 @@ use Rattle.replay_rounds.specs.World.{World}
 use Rattle.replay_rounds.specs.Entering.{failed}
 use Rattle.replay_rounds.specs.Receiving.{received_by, receives}
 use Rattle.replay_rounds.specs.Rounds.{fresh, opened_by, opening, round, has_ended, after, begun}
-use Rattle.replay_rounds.specs.Bound.{bound}
 use Rattle.replay_rounds.specs.Laws.{ReplaysHearTheirTape}
 use Rattle.replay_rounds.proofs.Kept.{IsCarried, Any, entered_on, noted_on, hands_on, idles_on, IsWalked, walk_on}
 use Rattle.replay_rounds.proofs.Wires.{TiedBut, each_tied, one_more, turned, bytes_on}
@@ -263,9 +262,12 @@ fronts_of [] others (front ∷ fronts) h = absurd h
 fronts_of (whole ∷ wholes) others [] h = tt
 fronts_of (whole ∷ wholes) others (front ∷ fronts) h = (h.0, fronts_of wholes others fronts h.1)
 
-pub replays_hear_their_tape : ReplaysHearTheirTape
-replays_hear_their_tape setup sizes tick lines tape =
+heard_after : (n : ℕ) (setup : Setup) (sizes : Sizes) (tick : ℕ) (lines : List Line) (tape : List Item) → AreFronts (after n (begun setup sizes tick lines tape)).given (wires tape)
+heard_after n setup sizes tick lines tape =
     let start = begun setup sizes tick lines tape in
-    let w = after (bound start) start in
-    let h : IsFronting tape w.items w.given = after_on tape (bound start) start (record { begun_ones = []; all = refl; fronts = tt }) in
+    let w = after n start in
+    let h : IsFronting tape w.items w.given = after_on tape n start (record { begun_ones = []; all = refl; fronts = tt }) in
     subst (AreFronts w.given) (sym h.all) (fronts_of h.begun_ones (wires w.items) w.given (each_tied Front (Last w.items) (shorter w.items) h.begun_ones w.given h.fronts))
+
+pub replays_hear_their_tape : ReplaysHearTheirTape
+replays_hear_their_tape setup sizes tick lines tape w leads = subst (λ (v : World). AreFronts v.given (wires tape)) leads.is (heard_after leads.rounds setup sizes tick lines tape)

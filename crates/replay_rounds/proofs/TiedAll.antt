@@ -1,6 +1,5 @@
 -- A replay's journal is tied to its link and its clock.
-use Rattle.std.proofs.Common.{◌≡◌, ℕ, suc, List, refl, subst, arith}
-use Rattle.agent_link.specs.Clocks.{step_readings}
+use Rattle.std.proofs.Common.{◌≡◌, ℕ, List, refl, subst, arith}
 use Rattle.agent_link.specs.Counts.{uncounted}
 use Rattle.broker_tape.specs.declared.tape.Item.{Item}
 use Rattle.agent_script.specs.declared.script.Line.{Line}
@@ -10,8 +9,7 @@ use Rattle.agent_table.specs.Sizes.{Sizes}
 use Rattle.agent_table.specs.Ties.{stages, Heard, IsCounted, IsTied}
 use Rattle.replay_rounds.specs.World.{World}
 use Rattle.broker_tape.specs.Given.{GivesBytes}
-use Rattle.replay_rounds.specs.Rounds.{begun}
-use Rattle.replay_rounds.specs.Bound.{bound, finished}
+use Rattle.replay_rounds.specs.Rounds.{after, begun}
 use Rattle.replay_rounds.proofs.Counted.{counted_after}
 use Rattle.replay_rounds.proofs.Ends.{begun_steady}
 use Rattle.replay_rounds.proofs.Heard.{LastHeard, IsHandedIn, is_heard}
@@ -19,7 +17,7 @@ use Rattle.replay_rounds.proofs.Seen.{seen, phase_seen}
 use Rattle.replay_rounds.proofs.Stays.{after_of}
 use Rattle.replay_rounds.proofs.Tied.{Ties}
 use Rattle.replay_rounds.proofs.TiedRounds.{ties_after}
-use Rattle.replay_rounds.proofs.Times.{timed_after}
+use Rattle.replay_rounds.proofs.Times.{HasReadings, read_after, has_readings}
 use Rattle.replay_rounds.proofs.Wired.{LastWired, is_wired}
 use Rattle.replay_rounds.proofs.Wires.{each_tied}
 
@@ -33,14 +31,22 @@ tied_of w readings h times counts =
       counts = counts;
     }
 
-pub tied_finished : (setup : Setup) (sizes : Sizes) (tick : ℕ) (lines : List Line) (items : List Item) → setup.tasks ≡ 1 → GivesBytes items
-    → (let w = finished (begun setup sizes tick lines items) in IsTied setup sizes w.past w.taken w.given (step_readings tick (suc w.clock.calls)) uncounted w.counts)
-tied_finished setup sizes tick lines items one gives =
+-- A replay behind so many rounds, with the readings of its clock.
+pub record IsTiedWorld (setup : Setup) (sizes : Sizes) (w : World) : Type 0 where
+  pub read : HasReadings w
+  pub tied : IsTied setup sizes w.past w.taken w.given read.readings uncounted w.counts
+
+pub tied_after : (n : ℕ) (setup : Setup) (sizes : Sizes) (tick : ℕ) (lines : List Line) (items : List Item) → setup.tasks ≡ 1 → GivesBytes items → IsTiedWorld setup sizes (after n (begun setup sizes tick lines items))
+tied_after n setup sizes tick lines items one gives =
     let start = begun setup sizes tick lines items in
-    let w = finished start in
-    let readings = step_readings tick (suc w.clock.calls) in
+    let w = after n start in
     let steady = begun_steady setup sizes tick lines items one in
-    let same = after_of (bound start) setup sizes start (refl, refl) in
-    let counted = counted_after (bound start) start (record { faults = omega arith; ends = omega arith; nothings = omega arith }) in
-    let tied = tied_of w readings (ties_after (bound start) start steady (record { wired = tt; heard = tt }) gives) (timed_after (bound start) tick start steady refl tt) counted in
-    subst (λ s. IsTied s sizes w.past w.taken w.given readings uncounted w.counts) same.0 (subst (λ l. IsTied w.setup l w.past w.taken w.given readings uncounted w.counts) same.1 tied)
+    let same = after_of n setup sizes start (refl, refl) in
+    let counted = counted_after n start (record { faults = omega arith; ends = omega arith; nothings = omega arith }) in
+    let read = has_readings w (read_after n start steady (λ few. tt)) in
+    let readings = read.readings in
+    let tied = tied_of w readings (ties_after n start steady (record { wired = tt; heard = tt }) gives) read.times counted in
+    record {
+      read = read;
+      tied = subst (λ s. IsTied s sizes w.past w.taken w.given readings uncounted w.counts) same.0 (subst (λ l. IsTied w.setup l w.past w.taken w.given readings uncounted w.counts) same.1 tied);
+    }

@@ -3,6 +3,7 @@ pub mod Entering
 pub mod Receiving
 pub mod Lines
 pub mod Rounds
+pub mod Plays
 pub mod Bound
 pub mod Asked
 pub mod Laws

@@ -9,7 +9,7 @@ pub fn replays_are_legal()
 {}
 
 /// A replay of one task goes through its script to its end, whatever its tape is.
-#[tactic(auto, using(crate::proofs::Ends::replays_end))]
+#[tactic(auto, using(crate::proofs::Ends::replays_lead_on))]
 pub fn replays_end()
     ensures { ReplaysEnd }
 {}
@@ -21,7 +21,7 @@ pub fn replays_take_all()
 {}
 
 /// A replay of one task is one legal history of the agent, in which what the script asks stands once and in its order, each
-/// command has exactly one completion, and each good outcome is earned. It is tied to its link and clock: over all
+/// command has exactly one completion, and each good outcome is earned. It is tied to its link and to its clock's readings: over all
 /// connections, what was sent are the journal's packets, or a front of them where that connection broke, and what came are
 /// the packets that arrived. The link counted a fault for each break that a fault caused, an end for each that an end caused,
 /// and ten thousand receives that heard nothing for each that silence caused.

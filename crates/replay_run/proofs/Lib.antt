@@ -1,3 +1,6 @@
 pub mod Answered
+pub mod Counts
 pub mod Headline
+pub mod Printed
 pub mod Tallies
+pub mod Told

@@ -1,79 +1,170 @@
-//! The command `replay`, from its script and tape to its text.
+//! The command `replay`, from its words and its source to its text and status.
 
-ghost use Rattle.std.specs.Prelude.{◌≡◌, ◌≢◌, ◌<◌, ◌≤◌, length, true, IfOk};
+ghost use Rattle.std.specs.Prelude.{◌≡◌, ◌≢◌, ◌-◌, ◌≤◌, length, drop, true, Ok};
 ghost use Rattle.std.specs.List.{AllByRecursion};
-ghost use Rattle.agent_link.specs.Counts.{Rose};
-ghost use Rattle.agent_link.specs.Writes.{AppendsFront};
-ghost use Rattle.broker_tape.specs.Given.{GivesBytes};
+ghost use Rattle.std.specs.Option.{option_copied};
+ghost use Rattle.plain_text.specs.Lines.{lines_of};
+ghost use Rattle.agent_link.specs.Counts.{raised};
+ghost use Rattle.broker_tape.specs.Tape.{tape_in};
 ghost use Rattle.agent_journal.specs.Setups.{is_client};
-ghost use Rattle.command_words.specs.Setups.{setup_of};
+ghost use Rattle.command_answers.specs.Answers.{Ends, sink_now};
+ghost use Rattle.command_answers.specs.Sources.{EndsBySource, source_limit, source_now};
+ghost use Rattle.agent_script.specs.Asked.{IsPlainLine};
 ghost use Rattle.replay_rounds.specs.Asked.{IsValidLine};
-ghost use Rattle.replay_agent.specs.Runs.{sizes_of};
-ghost use Rattle.command_answers.specs.Answers.{Answers, IsPlain, answer};
 ghost use Rattle.replay_run.specs.Answers.{replay_answer};
-ghost use Rattle.replay_run.specs.Headline.{PrintsHistory};
+ghost use Rattle.replay_run.specs.Commands as answers;
+ghost use Rattle.replay_run.specs.Headline.{HasRun, PrintsReplay};
+ghost use Rattle.thing_script.specs.Plain.{IsShortLine};
 
-use crate::report::report_of;
-use agent_script::Script;
-use agent_link::{Page, Sink};
-use broker_tape::Tape;
-use command_answers::finish;
-use command_words::RunWords;
-use mqtt_packet::NoMemory;
-use replay_agent::replay;
-use std::alloc::{AllocError, Global};
+use crate::call::replay_call;
+use crate::lines::{count_lines, first_said};
+use agent_link::{Sink, Source};
+use agent_script::{Script, ScriptFault, read_script};
+use broker_tape::{Tape, TapeFault, read_tape};
+use command_answers::{refuse_line, source_text};
+use command_words::{RunWords, Size};
+use std::alloc::Global;
+use thing_script::{LineFault, with_topics};
 
-/// Replays a script of one task against a tape and writes the journal, the task's line, with a thing the line of its
-/// messages' kinds, and the last line. Answers the exit status: that of how the agent ended, or 7 where memory ran out, or
-/// 8 where the sink failed, behind a front of the text.
-#[tactic(auto, using(crate::proofs::Headline::prints_history))]
-pub fn replay_call<O: Sink, const ACKS: usize, const IN: usize, const ROUTES: usize>(
+/// Reads the source, which spells a script and a tape, and replays it. Answers the exit status: 0 where the agent ended as it
+/// was asked to, 3 where it gave up its link, 4 where the broker refused it, 5 where the broker's bytes were wrong, and 6 where
+/// the broker held an old session; 2 where the source has a bad line or too many bytes, 7 where memory ran out, 8 where the
+/// sink failed, and 9 where the source failed.
+#[tactic(auto, using(crate::proofs::Told::source_told, crate::proofs::Printed::prints_replay))]
+pub fn replay_command<S: Source, O: Sink>(
+    alloc: Global,
+    words: &RunWords,
+    source: &mut S,
+    out: &mut O,
+) -> u8
+    requires { is_client words.now.client ≡ true }
+    ensures ends { EndsBySource result (source_now (S.left source.old) (S.faults source.old)) (source_now (S.left source.new) (S.faults source.new))
+        (sink_now (O.written out.old) (O.faults out.old))
+        (sink_now (O.written out.new) (O.faults out.new)) (answers.source_answer words.now) }
+    // Where an agent ran, what is written is one legal history of it.
+    ensures history { HasRun result →
+        PrintsReplay words.now (S.left source.old) result (O.written out.old) (O.written out.new) }
+    ensures no_words { result ≢ 1 }
+    ensures source_fault { result ≡ 9 → S.faults source.new ≡ raised (S.faults source.old) }
+{
+    match source_text(alloc, source, out) {
+        Ok(text) => replay_text(alloc, words, text.as_slice(), out),
+        Err(status) => status,
+    }
+}
+
+/// Replays what a text spells.
+#[tactic(auto, using(crate::proofs::Told::line_told, replay_agent::proofs::ReadLines::read_script_valid, thing_script::proofs::Short::read_script_short))]
+fn replay_text<O: Sink>(alloc: Global, words: &RunWords, text: &[u8], out: &mut O) -> u8
+    requires client { is_client words.now.client ≡ true }
+    requires few { length text.now ≤ source_limit }
+    ensures ends { Ends result (sink_now (O.written out.old) (O.faults out.old))
+        (sink_now (O.written out.new) (O.faults out.new)) (answers.text_answer words.now text.now) }
+    ensures no_words { result ≢ 1 }
+    ensures no_source { result ≢ 9 }
+{
+    match read_script(alloc, text) {
+        Ok((script, at)) => replay_lines(alloc, words, text, script, at, out),
+        Err(ScriptFault::Line(number)) => refuse_line(out, number),
+        Err(ScriptFault::NoMemory) => 7,
+    }
+}
+
+/// Makes the lines on shadows and jobs publishes, and replays the script.
+#[tactic(auto, using(crate::proofs::Told::named_told, crate::proofs::Told::topic_told, crate::proofs::Told::tasks_told, crate::proofs::Printed::same_tasks, command_answers::proofs::Sourced::nothing))]
+fn replay_lines<O: Sink>(
+    alloc: Global,
+    words: &RunWords,
+    text: &[u8],
+    script: Script,
+    at: usize,
+    out: &mut O,
+) -> u8
+    requires client { is_client words.now.client ≡ true }
+    requires lines { script.tasks ≡ 1 → AllByRecursion IsValidLine script.lines }
+    requires short { AllByRecursion IsShortLine script.lines }
+    requires few { (length script.lines ≤ length text.now) × (length text.now ≤ source_limit) }
+    requires within { at ≤ length text.now }
+    ensures ends { Ends result (sink_now (O.written out.old) (O.faults out.old))
+        (sink_now (O.written out.new) (O.faults out.new))
+        (answers.script_answer words.now text.now (Ok (script, lines_of (drop at text.now)))) }
+    ensures no_words { result ≢ 1 }
+    ensures no_source { result ≢ 9 }
+{
+    if script.tasks != 1 {
+        return refuse_line(out, first_said(text));
+    }
+    match with_topics(alloc, script, thing_of(words)) {
+        Ok(script) => replay_tape(alloc, words, text, &script, at, out),
+        Err(LineFault::Line(number)) => refuse_line(out, number),
+        Err(LineFault::NoMemory) => 7,
+    }
+}
+
+/// The thing whose shadow and jobs the script's lines speak of.
+fn thing_of(words: &RunWords) -> Option<&str>
+    ensures { option_copied result ≡ words.now.thing }
+{
+    match &words.thing {
+        Some(thing) => Some(thing.as_str()),
+        None => None,
+    }
+}
+
+/// Reads the tape, whose lines are counted on from those of the script, and replays the script against it.
+#[tactic(auto, using(crate::proofs::Told::tape_told, command_answers::proofs::Sourced::nothing))]
+fn replay_tape<O: Sink>(
+    alloc: Global,
+    words: &RunWords,
+    text: &[u8],
+    script: &Script,
+    at: usize,
+    out: &mut O,
+) -> u8
+    requires client { is_client words.now.client ≡ true }
+    requires one_task { script.now.tasks ≡ 1 }
+    requires lines { AllByRecursion IsValidLine script.now.lines }
+    requires plain { AllByRecursion IsPlainLine script.now.lines }
+    requires few { (length script.now.lines ≤ length text.now) × (length text.now ≤ source_limit) }
+    requires within { at ≤ length text.now }
+    ensures ends { Ends result (sink_now (O.written out.old) (O.faults out.old))
+        (sink_now (O.written out.new) (O.faults out.new))
+        (answers.tape_answer words.now (length (lines_of text.now) - length (lines_of (drop at text.now))) script.now (tape_in (lines_of (drop at text.now)))) }
+    ensures no_words { result ≢ 1 }
+    ensures no_source { result ≢ 9 }
+{
+    let (_, rest) = text.split_at(at);
+    match read_tape(alloc, rest) {
+        Ok(tape) => replay_sized(alloc, words, script, tape, out),
+        Err(TapeFault::Line(number)) => {
+            let before = count_lines(text).saturating_sub(count_lines(rest));
+            refuse_line(out, before + number)
+        }
+        Err(TapeFault::NoMemory) => 7,
+    }
+}
+
+/// Replays with an agent of the size that was asked for.
+fn replay_sized<O: Sink>(
     alloc: Global,
     words: &RunWords,
     script: &Script,
     tape: Tape,
     out: &mut O,
 ) -> u8
-    requires sizes { (0 < ACKS) × (ACKS ≤ 1024) × (0 < IN) × (IN ≤ 1024) × (0 < ROUTES) × (ROUTES ≤ 1024) }
     requires client { is_client words.now.client ≡ true }
     requires one_task { script.now.tasks ≡ 1 }
     requires lines { AllByRecursion IsValidLine script.now.lines }
-    requires few { length script.now.lines ≤ 4000000000 }
-    ensures answer { Answers result (O.written out.old) (O.written out.new) (replay_answer words.now (sizes_of ACKS IN ROUTES) script.now tape) }
-    // What is printed is one legal history of the agent, tied to the tape and the clock.
-    ensures history { result ≢ 7 → result ≢ 8 → GivesBytes tape →
-        PrintsHistory (setup_of words.now script.now.tasks) (sizes_of ACKS IN ROUTES) words.now.tick words.now.thing script.now tape result (O.written out.old) (O.written out.new) }
-    ensures front { result ≡ 8 → AppendsFront (O.written out.old) (O.written out.new) (replay_answer words.now (sizes_of ACKS IN ROUTES) script.now tape).text }
-    ensures fault { result ≡ 8 → Rose (O.faults out.old) (O.faults out.new) }
+    requires plain { AllByRecursion IsPlainLine script.now.lines }
+    requires few { length script.now.lines ≤ source_limit }
+    ensures ends { Ends result (sink_now (O.written out.old) (O.faults out.old))
+        (sink_now (O.written out.new) (O.faults out.new))
+        (replay_answer words.now (answers.sizes_in words.now.size) script.now tape) }
     ensures no_words { result ≢ 1 }
     ensures no_source { result ≢ 9 }
 {
-    match replayed::<ACKS, IN, ROUTES>(alloc, words, script, tape) {
-        Ok((page, status)) => finish(out, page.as_slice(), status),
-        Err(_) => 7,
-    }
-}
-
-/// The text of a replay, and its status.
-#[tactic(auto, using(crate::proofs::Answered::answered, crate::proofs::Answered::plain_status))]
-fn replayed<const ACKS: usize, const IN: usize, const ROUTES: usize>(
-    alloc: Global,
-    words: &RunWords,
-    script: &Script,
-    tape: Tape,
-) -> Result<(Page, u8), NoMemory>
-    requires sizes { (0 < ACKS) × (ACKS ≤ 1024) × (0 < IN) × (IN ≤ 1024) × (0 < ROUTES) × (ROUTES ≤ 1024) }
-    requires client { is_client words.now.client ≡ true }
-    requires one_task { script.now.tasks ≡ 1 }
-    requires lines { AllByRecursion IsValidLine script.now.lines }
-    requires few { length script.now.lines ≤ 4000000000 }
-    ensures answer { IfOk result (λ x. answer x.1 x.0 ≡ replay_answer words.now (sizes_of ACKS IN ROUTES) script.now tape) }
-    ensures plain { IfOk result (λ x. IsPlain x.1 × (x.1 ≢ 1) × (x.1 ≢ 9)) }
-{
-    let setup = words.setup(alloc, script.tasks)?;
-    let replayed = replay::<ACKS, IN, ROUTES>(alloc, setup, words.tick, script, tape)?;
-    match report_of(alloc, &words.thing, &replayed) {
-        Ok(page) => Ok((page, replayed.ending.status())),
-        Err(_) => Err(AllocError),
+    match words.size {
+        Size::Tiny => replay_call::<O, 2, 2, 2>(alloc, words, script, tape, out),
+        Size::Usual => replay_call::<O, 20, 20, 32>(alloc, words, script, tape, out),
     }
 }

@@ -1,7 +1,10 @@
 //! The command `replay`: a script and the tape of a broker give the printed journal.
 #![tactic(auto)]
 
+mod call;
 mod command;
+mod lines;
 mod report;
 
-pub use command::replay_call;
+pub use call::replay_call;
+pub use command::replay_command;

@@ -14,7 +14,8 @@ use Rattle.thing_topics.specs.declared.shadows.ShadowKind.{ShadowKind}
 use Rattle.thing_topics.specs.declared.jobs.JobsKind.{JobsKind}
 use Rattle.thing_topics.specs.Shadows as shadows
 use Rattle.thing_topics.specs.Jobs as jobs
-use Rattle.thing_script.specs.Plain.{HasValidStep, IsPlainLine, IsPlainStep, IsShortLine, IsShortStep}
+use Rattle.agent_script.specs.Asked.{IsPlainLine, IsPlainStep}
+use Rattle.thing_script.specs.Plain.{HasValidStep, IsShortLine, IsShortStep}
 use Rattle.thing_script.specs.Topics.{jobs_kind, jobs_step, jobs_topic, lines_with, onto, or_number, publish, request_line, shadow_kind, shadow_step, shadow_topic, step_with, topic_or_none}
 use Rattle.plain_text.proofs.WhatIsRead.{SomeIs, always, bound, either}
 use Rattle.thing_script.proofs.Each.{OkIs, each}

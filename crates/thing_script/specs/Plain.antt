@@ -1,18 +1,9 @@
--- Lines that ask for requests alone, and payloads that a request may have.
+-- Payloads that a request may have, and requests that are valid.
 use Rattle.std.specs.Prelude.{◌≤◌, length}
 use Rattle.agent_script.specs.declared.script.Line.{Line}
 use Rattle.agent_script.specs.declared.script.Step.{Step}
 use Rattle.agent_script.specs.declared.script.Step.TheVariants as steps
 use Rattle.replay_rounds.specs.Asked.{IsValidStep}
-
--- it speaks of no shadow and of no job
-abbrev pub IsPlainStep : Step → Type 0
-IsPlainStep (steps.Shadow op name payload) = ⊥
-IsPlainStep (steps.Jobs op job payload) = ⊥
-IsPlainStep _ = Unit {0}
-
-abbrev pub IsPlainLine : Line → Type 0
-IsPlainLine line = IsPlainStep line.step
 
 -- where it speaks of a shadow or a job, its payload has at most 131,072 bytes
 abbrev pub IsShortStep : Step → Type 0

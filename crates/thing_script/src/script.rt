@@ -5,7 +5,8 @@ ghost use Rattle.std.specs.List.{AllByRecursion};
 ghost use Rattle.std.specs.Option.{option_copied};
 ghost use Rattle.plain_text.specs.Reading.{Gives};
 ghost use Rattle.replay_rounds.specs.Asked.{IsValidLine};
-ghost use Rattle.thing_script.specs.Plain.{HasValidStep, IsPlainLine, IsShortLine};
+ghost use Rattle.agent_script.specs.Asked.{IsPlainLine};
+ghost use Rattle.thing_script.specs.Plain.{HasValidStep, IsShortLine};
 ghost use Rattle.thing_script.specs.Reading.{Tells};
 ghost use Rattle.thing_script.specs.Topics as topics;
 

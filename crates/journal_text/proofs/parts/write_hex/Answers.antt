@@ -1,4 +1,4 @@
-use Rattle.std.proofs.Common.{arith}
+use Rattle.std.proofs.Common.{refl, arith}
 use Rattle.agent_link.proofs.Writing.{stopped}
 use Rattle.journal_text.proofs.Piecewise.{hex_none, hex_stopped}
 use Rattle.journal_text.proofs.parts.write_hex.Goals as goal
@@ -7,7 +7,7 @@ pub loop-at-init : goal.loop-at-init
 loop-at-init g c = record {
   within = omega arith;
   so_far = hex_none (g.O.Sink.written c.args.out.now) c.args.bytes.now;
-  later = omega arith;
+  faults = refl;
 }
 
 pub returns-in_err-write_digits-clause-text : goal.returns-in_err-write_digits-clause-text

@@ -1,14 +1,13 @@
--- The first line from here on that isn't passed over is the first of all.
+-- The lines so far, and those from here on.
 use Rattle.std.proofs.Common.{◌≡◌, ◌-◌, ◌+◌, ◌≤◌, length, drop}
 use Rattle.plain_text.specs.Lines.{lines_of}
-use Rattle.agent_main.specs.Answers.{first_said}
-use Rattle.agent_main.proofs.lines.first_said.Given as goal
+use Rattle.replay_run.proofs.lines.count_lines.Given as goal
 
 abbrev pub invariant-lines : goal.invariant-lines
 invariant-lines l = record {
-  small : l.number ≤ l.at + 1;
+  small : l.count ≤ l.at;
   within : l.at ≤ length l.text;
-  so_far : first_said l.number (lines_of (drop l.at l.text)) ≡ first_said 1 (lines_of l.text);
+  so_far : l.count + length (lines_of (drop l.at l.text)) ≡ length (lines_of l.text);
 }
 
 abbrev pub decreases-lines : goal.decreases-lines

@@ -1,6 +1,6 @@
 use Rattle.std.proofs.Common.{◌≤◌, length, arith}
-use Rattle.agent_main.proofs.Counts.{lines_counted}
-use Rattle.agent_main.proofs.lines.count_lines.Goals as goal
+use Rattle.replay_run.proofs.Counts.{lines_counted}
+use Rattle.replay_run.proofs.lines.count_lines.Goals as goal
 
 pub returns-clause-count : goal.returns-clause-count
 returns-clause-count c =

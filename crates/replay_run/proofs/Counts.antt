@@ -2,7 +2,7 @@
 use Rattle.std.proofs.Common.{◌≡◌, ℕ, ◌+◌, ◌≤◌, Bool, true, false, cond, List, [], ◌∷◌, length, drop, sym, ap, ◌∙◌, arith}
 use Rattle.std.proofs.lemmas.List.{drop_all}
 use Rattle.plain_text.specs.Lines.{lines_of, is_passed}
-use Rattle.agent_main.specs.Answers.{first_said}
+use Rattle.replay_run.specs.Commands.{first_said}
 
 -- a line more was counted
 pub line_counted : (text line : List ℕ) (count at next all : ℕ) → count + length (lines_of (drop at text)) ≡ all → lines_of (drop at text) ≡ line ∷ lines_of (drop next text)

@@ -2,7 +2,7 @@
 
 ghost use Rattle.std.specs.Prelude.{◌≡◌, ◌+◌, ◌≤◌, length, drop};
 ghost use Rattle.plain_text.specs.Lines.{lines_of};
-ghost use Rattle.agent_main.specs.Answers.{first_said};
+ghost use Rattle.replay_run.specs.Commands.{first_said};
 
 use plain_text::{is_passed, line_at};
 

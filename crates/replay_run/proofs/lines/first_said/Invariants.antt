@@ -1,13 +1,14 @@
--- The lines so far, and those from here on.
+-- The first line from here on that isn't passed over is the first of all.
 use Rattle.std.proofs.Common.{◌≡◌, ◌-◌, ◌+◌, ◌≤◌, length, drop}
 use Rattle.plain_text.specs.Lines.{lines_of}
-use Rattle.agent_main.proofs.lines.count_lines.Given as goal
+use Rattle.replay_run.specs.Commands.{first_said}
+use Rattle.replay_run.proofs.lines.first_said.Given as goal
 
 abbrev pub invariant-lines : goal.invariant-lines
 invariant-lines l = record {
-  small : l.count ≤ l.at;
+  small : l.number ≤ l.at + 1;
   within : l.at ≤ length l.text;
-  so_far : l.count + length (lines_of (drop l.at l.text)) ≡ length (lines_of l.text);
+  so_far : first_said l.number (lines_of (drop l.at l.text)) ≡ first_said 1 (lines_of l.text);
 }
 
 abbrev pub decreases-lines : goal.decreases-lines
