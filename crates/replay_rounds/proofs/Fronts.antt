@@ -9,6 +9,9 @@ use Rattle.agent_link.specs.Wires.{onto_last}
 use Rattle.agent_link.specs.declared.link.Heard.{Heard}
 use Rattle.agent_link.specs.declared.link.Heard.TheVariants as heard
 use Rattle.broker_tape.specs.declared.tape.Item.{Item}
+use Rattle.agent_journal.specs.declared.setup.Setup.{Setup}
+use Rattle.agent_script.specs.declared.script.Line.{Line}
+use Rattle.agent_table.specs.Sizes.{Sizes}
 use Rattle.broker_tape.specs.declared.tape.Item.TheVariants as items
 use Rattle.broker_tape.specs.Playing.{closed, opens_at, opens, room_at, next, hears_of, hears_at, hears, bytes_of, bytes_at, present}
 use Rattle.broker_tape.specs.Given.{bytes_in, wires, IsFront, AreFronts}
