@@ -17,7 +17,7 @@ mod write;
 pub use effect::Effect;
 pub use ending::Ending;
 pub use entry::{Cause, Entry, Why};
-pub use laws::first_example;
+pub use laws::{entries_add_notes, first_example, notes_are_projections};
 use list_types::Seq;
 pub use message::Message;
 pub use outcome::Outcome;
