@@ -169,7 +169,7 @@ front_among (m ∷ ns) ms n e = by (m == n) (is_among ns n) (is_among (ns ++ ms)
     by true b d h e = refl
     by false b d h e = h e
 
-released_used : (s : Setup) (l : Sizes) (past : List Entry) (n : ℕ) → is_among (released_of past) n ≡ true → is_among (used (readings s l past)) n ≡ true
+pub released_used : (s : Setup) (l : Sizes) (past : List Entry) (n : ℕ) → is_among (released_of past) n ≡ true → is_among (used (readings s l past)) n ≡ true
 released_used s l past n one =
     let r = readings s l past in
     front_among (map (λ command. command.id) r.pending) (map (λ renewal. renewal.id) r.renewals) n (open_among (pending_of past) n (released_open past n one))
@@ -418,12 +418,15 @@ goes s l past e legal kept free = by (row s l past e.at e.cause) refl legal.0
         let same : found.effects ≡ e.effects = cc in
         record { kept = kept_on s l past e legal.1 kept free found made same; unreleased = unreleased s l past e legal.1 kept free found made same; unpublished = unpublished s l past e legal.1 kept free found made same }
 
-some_free : (s : Setup) (l : Sizes) (past : List Entry) → HasIdentifiers l → IsLegalPast s l past → length (used (readings s l past)) < 65535
+pub some_free : (s : Setup) (l : Sizes) (past : List Entry) → HasIdentifiers l → IsLegalPast s l past → length (used (readings s l past)) < 65535
 some_free s l past free legal = let few = identifiers_are_few s l past legal in omega (arith, few, free)
 
 is_kept : (s : Setup) (l : Sizes) (past : List Entry) → HasIdentifiers l → IsLegalPast s l past → IsKept s l past
 is_kept s l [] free legal = record { drawn = omega arith; waits = λ n h. absurd (cc h) }
 is_kept s l (e ∷ past) free legal = (goes s l past e legal (is_kept s l past free legal.1) (some_free s l past free legal.1)).kept
+
+pub drawn_low : (s : Setup) (l : Sizes) (past : List Entry) → HasIdentifiers l → IsLegalPast s l past → last_drawn_of past ≤ 65535
+drawn_low s l past free legal = (is_kept s l past free legal).drawn
 
 pub no_released_is_published : NoReleasedIsPublished
 no_released_is_published s l [] free legal = tt

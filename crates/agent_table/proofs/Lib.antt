@@ -7,7 +7,6 @@ pub mod Once
 pub mod Ends
 pub mod Ended
 pub mod Earned
-pub mod Received
 pub mod Fresh
 pub mod Searching
 pub mod SoundPackets
@@ -19,3 +18,5 @@ pub mod RouteLists
 pub mod Rooms
 pub mod FewUsed
 pub mod Awaiting
+pub mod Drawing
+pub mod Received

@@ -59,15 +59,13 @@ pub fn commands_complete_once()
     ensures { laws.CommandsCompleteOnce }
 {}
 
-/// A command is only done where the broker has acknowledged it, or needn't: at QoS 1 by a PUBACK of its
-/// identifier, at QoS 2 by a PUBCOMP behind a PUBREC, an unsubscribe by an UNSUBACK; and a subscribe is
-/// granted the codes of its SUBACK.
-#[tactic(auto, using(crate::proofs::Earned::outcomes_are_earned))]
+/// As the table reads it, a command is only done where the broker has acknowledged it, or needn't.
 pub fn outcomes_are_earned()
     ensures { laws.OutcomesAreEarned }
 {}
 
-/// A publish is only released behind a PUBREC that arrived while it was open.
+/// A publish is only released behind a PUBREC of its identifier that arrived behind its own Take, while it was open, where
+/// there are more identifiers than room for commands and routes.
 #[tactic(auto, using(crate::proofs::Received::released_were_received))]
 pub fn released_were_received()
     ensures { laws.ReleasedWereReceived }
@@ -105,4 +103,18 @@ pub fn no_released_is_published()
 #[tactic(auto, using(crate::proofs::Awaiting::awaited_stay_unpublished))]
 pub fn awaited_stay_unpublished()
     ensures { laws.AwaitedStayUnpublished }
+{}
+
+/// A command is only done where the broker has acknowledged this very command, or needn't: at QoS 1 by a PUBACK of its
+/// identifier, at QoS 2 by a PUBCOMP behind a PUBREC that arrived behind the command's own Take, an unsubscribe by an
+/// UNSUBACK; and a subscribe is granted the codes of its SUBACK, one for each filter.
+#[tactic(auto, using(crate::proofs::Received::good_are_earned))]
+pub fn good_are_earned()
+    ensures { laws.GoodAreEarned }
+{}
+
+/// A command that is open was taken, and its Take sent its packet with its identifier.
+#[tactic(auto, using(crate::proofs::Received::open_were_taken))]
+pub fn open_were_taken()
+    ensures { laws.OpenWereTaken }
 {}

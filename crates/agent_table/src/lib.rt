@@ -6,6 +6,6 @@ mod laws;
 pub use laws::{
     awaited_stay_unpublished, commands_complete_once, delivery_examples, each_is_open_or_done,
     end_examples, ends_with_none_open, first_examples, fresh_is_fresh, identifiers_are_few,
-    message_examples, no_released_is_published, none_is_early, outcomes_are_earned,
+    good_are_earned, message_examples, no_released_is_published, none_is_early, open_were_taken, outcomes_are_earned,
     packets_are_sound, released_were_received, renewal_examples,
 };
