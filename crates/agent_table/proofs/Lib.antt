@@ -1,4 +1,8 @@
 pub mod Worked
+pub mod WorkedTimes
+pub mod WorkedSessions
+pub mod WorkedRoutes
+pub mod WorkedRenewals
 pub mod Counts
 pub mod Commands
 pub mod Completions
@@ -20,3 +24,5 @@ pub mod FewUsed
 pub mod Awaiting
 pub mod Drawing
 pub mod Received
+pub mod Closes
+pub mod Closed

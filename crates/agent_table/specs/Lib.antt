@@ -17,5 +17,11 @@ pub mod Histories
 pub mod Ties
 pub mod Awaiting
 pub mod Worked
+pub mod WorkedTimes
+pub mod WorkedSessions
+pub mod WorkedRoutes
+pub mod WorkedRenewals
 pub mod Laws
+pub mod Endings
+pub mod Closings
 pub mod Promises

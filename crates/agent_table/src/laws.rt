@@ -1,7 +1,12 @@
 //! Laws of the definitions, each the contract of a function that does nothing.
 
+ghost use Rattle.agent_table.specs.Closings as closings;
 ghost use Rattle.agent_table.specs.Laws as laws;
 ghost use Rattle.agent_table.specs.Worked as worked;
+ghost use Rattle.agent_table.specs.WorkedRenewals as renewals;
+ghost use Rattle.agent_table.specs.WorkedRoutes as routes;
+ghost use Rattle.agent_table.specs.WorkedSessions as sessions;
+ghost use Rattle.agent_table.specs.WorkedTimes as times;
 
 /// The journal of one task that publishes once is legal, and so is that of a connection that the
 /// broker refuses.
@@ -117,4 +122,76 @@ pub fn good_are_earned()
 #[tactic(auto, using(crate::proofs::Received::open_were_taken))]
 pub fn open_were_taken()
     ensures { laws.OpenWereTaken }
+{}
+
+/// An agent that has ended has closed each task that hasn't left.
+#[tactic(auto, using(crate::proofs::Closed::off_has_closed))]
+pub fn off_has_closed()
+    ensures { closings.OffHasClosed }
+{}
+
+/// A task is closed only by an agent that has ended.
+#[tactic(auto, using(crate::proofs::Closed::closed_is_off))]
+pub fn closed_is_off()
+    ensures { closings.ClosedIsOff }
+{}
+
+/// Where a task was closed, and neither a Disconnect nor a Terminate was taken, the agent didn't end as Done.
+#[tactic(auto, using(crate::proofs::Closed::closed_unasked_is_a_fault))]
+pub fn closed_unasked_is_a_fault()
+    ensures { closings.ClosedUnaskedIsAFault }
+{}
+
+/// A subscribe is granted at most eight codes.
+#[tactic(auto, using(crate::proofs::Closed::granted_are_few))]
+pub fn granted_are_few()
+    ensures { closings.GrantedAreFew }
+{}
+
+/// A PINGREQ that is due, silence that breaks a connection, and what a break leaves of open commands.
+#[tactic(auto, using(crate::proofs::WorkedTimes::times_are_legal))]
+pub fn time_examples()
+    ensures { times.TimesAreLegal }
+{}
+
+/// Sessions that are wiped, and one that the agent doesn't know.
+#[tactic(auto, using(crate::proofs::WorkedSessions::sessions_are_legal))]
+pub fn session_examples()
+    ensures { sessions.SessionsAreLegal }
+{}
+
+/// Commands without room, the order in which they are sent again, and an identifier of another command.
+#[tactic(auto, using(crate::proofs::WorkedSessions::rooms_are_legal))]
+pub fn room_examples()
+    ensures { sessions.RoomsAreLegal }
+{}
+
+/// Identifiers behind 65,535.
+#[tactic(auto, using(crate::proofs::WorkedSessions::identifiers_wrap))]
+pub fn identifier_examples()
+    ensures { sessions.IdentifiersWrap }
+{}
+
+/// Two tasks with one filter.
+#[tactic(auto, using(crate::proofs::WorkedRoutes::pairs_are_legal))]
+pub fn pair_examples()
+    ensures { routes.PairsAreLegal }
+{}
+
+/// Filters that are shared, and room for routes.
+#[tactic(auto, using(crate::proofs::WorkedRoutes::shared_are_legal))]
+pub fn shared_examples()
+    ensures { routes.SharedAreLegal }
+{}
+
+/// Nine filters that are asked for again.
+#[tactic(auto, using(crate::proofs::WorkedRenewals::many_are_renewed))]
+pub fn many_examples()
+    ensures { renewals.ManyAreRenewed }
+{}
+
+/// A granted quality of service that outlives its route.
+#[tactic(auto, using(crate::proofs::WorkedRenewals::grants_outlive))]
+pub fn grant_examples()
+    ensures { renewals.GrantsOutlive }
 {}
