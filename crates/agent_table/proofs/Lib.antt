@@ -26,3 +26,7 @@ pub mod Drawing
 pub mod Received
 pub mod Closes
 pub mod Closed
+pub mod Holding
+pub mod Pinging
+pub mod FirstUnused
+pub mod Receiving

@@ -43,7 +43,7 @@ one_kept : (keeps : Bool) (x n : ℕ) (kept all : List ℕ) → (is_among kept n
 one_kept true x n kept all h e = joined (x == n) (is_among kept n) (is_among all n) h e
 one_kept false x n kept all h e = rw (h e) (or_true (x == n))
 
-kept : (keeps : ℕ → Bool) (ns : List ℕ) (n : ℕ) → is_among (filter keeps ns) n ≡ true → is_among ns n ≡ true
+pub kept : (keeps : ℕ → Bool) (ns : List ℕ) (n : ℕ) → is_among (filter keeps ns) n ≡ true → is_among ns n ≡ true
 kept keeps [] n e = e
 kept keeps (x ∷ ns) n e = one_kept (keeps x) x n (filter keeps ns) ns (kept keeps ns n) e
 
@@ -55,7 +55,7 @@ by_first : (a b : Bool) (x n : ℕ) (all : Bool) → (all ≡ true → (b ≡ tr
 by_first true b x n all h e = inl refl
 by_first false b x n all h e = h e
 
-behind_all : (ns : List ℕ) (x n : ℕ) → is_among (ns ++ x ∷ []) n ≡ true → (is_among ns n ≡ true) ⊎ (x ≡ n)
+pub behind_all : (ns : List ℕ) (x n : ℕ) → is_among (ns ++ x ∷ []) n ≡ true → (is_among ns n ≡ true) ⊎ (x ≡ n)
 behind_all [] x n e = last_is (x == n) x n refl e
 behind_all (y ∷ ns) x n e = by_first (y == n) (is_among ns n) x n (is_among (ns ++ x ∷ []) n) (behind_all ns x n) e
 
@@ -99,7 +99,7 @@ by_cause commands released c.Tick n among = inl among
 by_cause commands released c.GaveUp n among = inl among
 by_cause commands released c.Finish n among = inl among
 
-either : (command : Pending) (commands others : List Pending) → IsOneOf command (commands ++ others) → IsOneOf command commands ⊎ IsOneOf command others
+pub either : (command : Pending) (commands others : List Pending) → IsOneOf command (commands ++ others) → IsOneOf command commands ⊎ IsOneOf command others
 either command [] others one = inr one
 either command (other ∷ commands) others (inl same) = inl (inl same)
 either command (other ∷ commands) others (inr later) = by (either command commands others later)

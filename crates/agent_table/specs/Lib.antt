@@ -25,3 +25,4 @@ pub mod Laws
 pub mod Endings
 pub mod Closings
 pub mod Promises
+pub mod Meanings

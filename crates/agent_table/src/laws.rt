@@ -2,6 +2,7 @@
 
 ghost use Rattle.agent_table.specs.Closings as closings;
 ghost use Rattle.agent_table.specs.Laws as laws;
+ghost use Rattle.agent_table.specs.Meanings as meanings;
 ghost use Rattle.agent_table.specs.Worked as worked;
 ghost use Rattle.agent_table.specs.WorkedRenewals as renewals;
 ghost use Rattle.agent_table.specs.WorkedRoutes as routes;
@@ -194,4 +195,46 @@ pub fn many_examples()
 #[tactic(auto, using(crate::proofs::WorkedRenewals::grants_outlive))]
 pub fn grant_examples()
     ensures { renewals.GrantsOutlive }
+{}
+
+/// A held identifier is one whose QoS 2 PUBLISH was answered with PUBREC, and behind that stands neither a PUBREL of it nor a
+/// loss of the session (MQTT 3.1.1, section 4.3.3).
+#[tactic(auto, using(crate::proofs::Holding::held_are_unreleased))]
+pub fn held_are_unreleased()
+    ensures { meanings.HeldAreUnreleased }
+{}
+
+/// Each such identifier is held.
+#[tactic(auto, using(crate::proofs::Holding::unreleased_are_held))]
+pub fn unreleased_are_held()
+    ensures { meanings.UnreleasedAreHeld }
+{}
+
+/// The unanswered PINGREQ is the first one behind the last opening or PINGRESP (MQTT 3.1.1, section 3.12).
+#[tactic(auto, using(crate::proofs::Pinging::unanswered_is_first))]
+pub fn unanswered_is_first()
+    ensures { meanings.UnansweredIsFirst }
+{}
+
+/// The first PINGREQ behind the last opening or PINGRESP is unanswered.
+pub fn first_is_unanswered()
+    ensures { meanings.FirstIsUnanswered }
+{}
+
+/// Where no PINGREQ was sent since the last opening or PINGRESP, none is unanswered.
+#[tactic(auto, using(crate::proofs::Pinging::none_is_unanswered))]
+pub fn none_is_unanswered()
+    ensures { meanings.NoneIsUnanswered }
+{}
+
+/// The fresh identifier is the first, cyclically in 1 to 65,535 behind the last one drawn, that isn't in use: each between is
+/// (MQTT 3.1.1, section 2.3.1).
+#[tactic(auto, using(crate::proofs::FirstUnused::fresh_is_first_unused))]
+pub fn fresh_is_first_unused()
+    ensures { meanings.FreshIsFirstUnused }
+{}
+
+/// An open QoS 2 publish is released from its own PUBREC on.
+pub fn received_are_released()
+    ensures { meanings.ReceivedAreReleased }
 {}
