@@ -30,3 +30,5 @@ pub mod Holding
 pub mod Pinging
 pub mod FirstUnused
 pub mod Receiving
+pub mod Ordered
+pub mod Sessions

@@ -1,19 +1,21 @@
 -- What the readings of a journal mean, in the words of MQTT 3.1.1: laws of the definitions that the table reads.
-use Rattle.std.specs.Prelude.{◌≡◌, ◌⊎◌, ℕ, zero, suc, ◌<◌, ◌≤◌, Bool, true, false, ◌&&◌, ◌==◌, List, [], ◌∷◌, ◌++◌, length, Some, None}
+use Rattle.std.specs.Prelude.{◌≡◌, ◌⊎◌, ℕ, zero, suc, ◌<◌, ◌≤◌, Bool, true, false, ◌&&◌, ◌||◌, not, ◌==◌, if◌then◌else◌, List, [], ◌∷◌, ◌++◌, length, Some, None}
+use Rattle.std.specs.List.{list_any}
 use Rattle.mqtt_packet.specs.declared.packet.Packet.{Packet}
 use Rattle.mqtt_packet.specs.declared.packet.Packet.TheVariants as p
 use Rattle.agent_journal.specs.declared.entry.Cause.{Cause}
 use Rattle.agent_journal.specs.declared.entry.Cause.TheVariants as c
 use Rattle.agent_journal.specs.declared.entry.Entry.{Entry}
 use Rattle.agent_journal.specs.declared.setup.Setup.{Setup}
-use Rattle.agent_journal.specs.Readings.{Pending, pending_of, accepted_of}
+use Rattle.agent_journal.specs.Readings.{Pending, pending_of, accepts, accepted_of}
+use Rattle.agent_journal.specs.Wires.{is_opened, sends}
 use Rattle.agent_table.specs.Awaiting.{is_release_of}
 use Rattle.agent_table.specs.Deliveries.{is_among, is_exactly_once, publishes, released_of, held_of}
 use Rattle.agent_table.specs.Histories.{IsLegalPast}
 use Rattle.agent_table.specs.Identifiers.{behind, fresh}
 use Rattle.agent_table.specs.Laws.{HasIdentifiers, IsOneOf, WasReceived}
 use Rattle.agent_table.specs.Sends.{sends_received, sends_ping}
-use Rattle.agent_table.specs.Sessions.{loses_session, ping_of}
+use Rattle.agent_table.specs.Sessions.{is_first, loses_session, ping_of}
 use Rattle.agent_table.specs.Sizes.{Sizes}
 
 -- ---- Held identifiers (section 4.3.3)
@@ -107,3 +109,41 @@ abbrev pub ReceivedAreReleased : Type 0
 ReceivedAreReleased =
     (s : Setup) (l : Sizes) (past : List Entry) → IsLegalPast s l past → (command : Pending) → IsOneOf command (pending_of past) → publishes is_exactly_once command.request ≡ true
     → WasReceived past command → is_among (released_of past) command.id ≡ true
+
+-- whether the first number stands before the second one
+abbrev pub precedes : ℕ → ℕ → List ℕ → Bool
+precedes a b [] = false
+precedes a b (n ∷ ids) = (n == a && is_among ids b) || precedes a b ids
+
+-- An identifier is released behind each of these entries behind a past.
+abbrev pub StaysReleased : ℕ → List Entry → List Entry → Type 0
+StaysReleased a [] past = is_among (released_of past) a ≡ true
+StaysReleased a (e ∷ later) past = (is_among (released_of (e ∷ later ++ past)) a ≡ true) × StaysReleased a later past
+
+-- There was a moment at which the first one was released and the second one wasn't, and the first one has been since.
+abbrev pub WasReleasedFirst : ℕ → ℕ → List Entry → Type 0
+WasReleasedFirst a b past = (later before : List Entry) × (past ≡ later ++ before) × (is_among (released_of before) b ≡ false) × StaysReleased a later before
+
+-- So the released stand in the order of their first PUBRECs.
+abbrev pub ReleasedAreInOrder : Type 0
+ReleasedAreInOrder = (past : List Entry) (a b : ℕ) → precedes a b (released_of past) ≡ true → WasReleasedFirst a b past
+
+-- ---- The first session (section 3.2.2.2)
+
+abbrev pub is_clean_connect : Packet → Bool
+is_clean_connect (p.Connect clean keep_alive client will user password) = clean
+is_clean_connect _ = false
+
+-- whether the newest connection was opened with clean session 1
+abbrev pub is_clean : List Entry → Bool
+is_clean [] = false
+is_clean (e ∷ past) = if is_opened e.cause then list_any is_clean_connect (sends e.effects) else is_clean past
+
+-- whether a CONNACK of code 0 arrived on a connection with clean session 0
+abbrev pub has_session : List Entry → Bool
+has_session [] = false
+has_session (e ∷ past) = (accepts e.cause && not (is_clean past)) || has_session past
+
+-- In a legal journal a connection is the first one as long as none with clean session 0 was accepted.
+abbrev pub FirstHasNoSession : Type 0
+FirstHasNoSession = (s : Setup) (l : Sizes) (past : List Entry) → IsLegalPast s l past → is_first s (accepted_of past) ≡ not (has_session past)

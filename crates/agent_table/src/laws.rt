@@ -238,3 +238,15 @@ pub fn fresh_is_first_unused()
 pub fn received_are_released()
     ensures { meanings.ReceivedAreReleased }
 {}
+
+/// The released publishes stand in the order of their first PUBRECs.
+#[tactic(auto, using(crate::proofs::Ordered::released_are_in_order))]
+pub fn released_are_in_order()
+    ensures { meanings.ReleasedAreInOrder }
+{}
+
+/// A connection is the first one as long as no CONNACK was accepted on one with clean session 0 (MQTT 3.1.1, section 3.2.2.2).
+#[tactic(auto, using(crate::proofs::Sessions::first_has_no_session))]
+pub fn first_has_no_session()
+    ensures { meanings.FirstHasNoSession }
+{}
