@@ -110,7 +110,7 @@ quiet_outcome : (r : Readings) (cause : Cause) (t q : ℕ) (outcome : Outcome) �
 quiet_outcome r cause t q o.Done plain apart (inl (request, is, at_once)) = absurd (subst IsPlain is plain)
 quiet_outcome r cause t q o.Done plain apart (inr (command, one, task, seq, ack)) =
     of_each (λ request. IsQuiet request o.Done) t q r.pending command apart one task seq (acknowledged_quiet r cause command.id command.request plain ack)
-quiet_outcome r cause t q (o.Granted codes) plain apart (command, one, task, seq, is) = absurd (subst IsPlain is plain)
+quiet_outcome r cause t q (o.Granted codes) plain apart (command, one, task, seq, is, subscribes, many) = absurd (subst IsPlain is plain)
 quiet_outcome r cause t q o.NoRoom plain apart earned = all_quiet o.NoRoom t q r.pending (λ request. (refl, λ e. refl))
 quiet_outcome r cause t q o.NoRoute plain apart earned = all_quiet o.NoRoute t q r.pending (λ request. (refl, λ e. refl))
 quiet_outcome r cause t q o.NotConnected plain apart earned = all_quiet o.NotConnected t q r.pending (λ request. (refl, λ e. refl))
@@ -226,7 +226,7 @@ take_outcome r past task seq request more t q o.Done same is taken others (inl (
     (none_named o.Done past t q (pending_of past) (sym b ∙ is ∙ ap (λ u. takes_of u past) a) taken)
     (all_map (λ (other : Pending). is_unsubscribe other.request ≡ false) (λ (other : Pending). is_command t q other ≡ true → IsQuiet other.request o.Done) more (λ other nay h. quiet_unless other.request o.Done refl nay) others)
 take_outcome r past task seq request more t q o.Done same is taken others (inr (command, one, its_task, its_seq, ack)) = absurd (not_acknowledged r task seq request command.id command.request ack)
-take_outcome r past task seq request more t q (o.Granted codes) same is taken others (command, one, its_task, its_seq, e) = absurd (subst IsTake e tt)
+take_outcome r past task seq request more t q (o.Granted codes) same is taken others (command, one, its_task, its_seq, e, subscribes, many) = absurd (subst IsTake e tt)
 take_outcome r past task seq request more t q o.NoRoom same is taken others earned = all_quiet o.NoRoom t q (pending_of past ++ more) (λ request. (refl, λ e. refl))
 take_outcome r past task seq request more t q o.NoRoute same is taken others earned = all_quiet o.NoRoute t q (pending_of past ++ more) (λ request. (refl, λ e. refl))
 take_outcome r past task seq request more t q o.NotConnected same is taken others earned = all_quiet o.NotConnected t q (pending_of past ++ more) (λ request. (refl, λ e. refl))

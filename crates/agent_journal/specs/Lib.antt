@@ -3,6 +3,7 @@ pub mod Requests
 pub mod Readings
 pub mod Endings
 pub mod Projections
+pub mod Notes
 pub mod Wires
 pub mod Sound
 pub mod Worked

@@ -5,6 +5,7 @@
 mod effect;
 mod ending;
 mod entry;
+mod laws;
 mod message;
 mod outcome;
 mod request;
@@ -13,6 +14,7 @@ mod setup;
 pub use effect::Effect;
 pub use ending::Ending;
 pub use entry::{Cause, Entry, Why};
+pub use laws::{entries_add_notes, notes_are_projections};
 use list_types::Seq;
 pub use message::Message;
 pub use outcome::Outcome;

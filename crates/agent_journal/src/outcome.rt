@@ -1,6 +1,7 @@
 //! How commands end.
 
-use list_types::Seq;
+use list_types::{Copied, Seq};
+use std::alloc::{AllocError, Global};
 
 /// How a command ended.
 #[derive(Debug, Drop, PartialEq, Eq)]
@@ -17,10 +18,29 @@ pub enum Outcome {
     NotConnected,
     /// The connection broke before the acknowledgement came.
     LinkLost,
-    /// The broker had lost the session.
+    /// The broker lost the session while this publish was open; whether it was passed on isn't known;
+    /// the task's routes stay and are asked for again.
     SessionLost,
     /// The agent ended first.
     Cancelled,
     /// Memory ran out. It stands in no journal.
     NoMemory,
+}
+
+impl Copied for Outcome {
+    fn copy(&self, alloc: Global) -> Result<Outcome, AllocError> {
+        Ok(match self {
+            Outcome::Granted { codes } => Outcome::Granted {
+                codes: codes.copy(alloc)?,
+            },
+            Outcome::Done => Outcome::Done,
+            Outcome::NoRoom => Outcome::NoRoom,
+            Outcome::NoRoute => Outcome::NoRoute,
+            Outcome::NotConnected => Outcome::NotConnected,
+            Outcome::LinkLost => Outcome::LinkLost,
+            Outcome::SessionLost => Outcome::SessionLost,
+            Outcome::Cancelled => Outcome::Cancelled,
+            Outcome::NoMemory => Outcome::NoMemory,
+        })
+    }
 }

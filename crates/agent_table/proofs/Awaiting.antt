@@ -161,7 +161,7 @@ open_among (command ∷ commands) n e = by (command.id == n) (publishes is_exact
     by true b others among h e = refl
     by false b others among h e = h e
 
-front_among : (ns ms : List ℕ) (n : ℕ) → is_among ns n ≡ true → is_among (ns ++ ms) n ≡ true
+pub front_among : (ns ms : List ℕ) (n : ℕ) → is_among ns n ≡ true → is_among (ns ++ ms) n ≡ true
 front_among [] ms n e = absurd (cc e)
 front_among (m ∷ ns) ms n e = by (m == n) (is_among ns n) (is_among (ns ++ ms) n) (front_among ns ms n) e
   where
@@ -169,7 +169,7 @@ front_among (m ∷ ns) ms n e = by (m == n) (is_among ns n) (is_among (ns ++ ms)
     by true b d h e = refl
     by false b d h e = h e
 
-released_used : (s : Setup) (l : Sizes) (past : List Entry) (n : ℕ) → is_among (released_of past) n ≡ true → is_among (used (readings s l past)) n ≡ true
+pub released_used : (s : Setup) (l : Sizes) (past : List Entry) (n : ℕ) → is_among (released_of past) n ≡ true → is_among (used (readings s l past)) n ≡ true
 released_used s l past n one =
     let r = readings s l past in
     front_among (map (λ command. command.id) r.pending) (map (λ renewal. renewal.id) r.renewals) n (open_among (pending_of past) n (released_open past n one))
@@ -195,7 +195,7 @@ module _ (command : Pending) (n : ℕ) where
   abbrev more : Pending → ℕ
   more other = cond (is_command command.task command.seq other) 1 0
 
-  counted : (commands : List Pending) → IsOneOf command commands → 1 ≤ count commands
+  pub counted : (commands : List Pending) → IsOneOf command commands → 1 ≤ count commands
   counted [] one = absurd one
   counted (other ∷ commands) (inl same) =
       let sum = count_more (is_command command.task command.seq) other commands in
@@ -234,7 +234,7 @@ module _ (command : Pending) (n : ℕ) where
   stands_in (other ∷ commands) others (inl same) = inl same
   stands_in (other ∷ commands) others (inr later) = inr (stands_in commands others later)
 
-  is_open : (commands : List Pending) → IsOneOf command commands → IsIt n command → is_open_publish is_exactly_once commands n ≡ true
+  pub is_open : (commands : List Pending) → IsOneOf command commands → IsIt n command → is_open_publish is_exactly_once commands n ≡ true
   is_open [] one it = absurd one
   is_open (other ∷ commands) (inl same) it =
       let its = subst (IsIt n) same it in rw (eq-eqb other.id n its.id, its.publish) refl
@@ -253,7 +253,7 @@ with_kept commands released id n one = by (is_open_publish is_exactly_once comma
     by true = front_among released (id ∷ []) n one
     by false = one
 
-behind_kept : (commands : List Pending) (released : List ℕ) (cause : Cause) (n : ℕ) → is_among released n ≡ true → is_among (released_behind commands released cause) n ≡ true
+pub behind_kept : (commands : List Pending) (released : List ℕ) (cause : Cause) (n : ℕ) → is_among released n ≡ true → is_among (released_behind commands released cause) n ≡ true
 behind_kept commands released c.Opened n one = one
 behind_kept commands released (c.Take task seq request) n one = one
 behind_kept commands released (c.Arrived packet) n one = by packet
@@ -278,7 +278,7 @@ behind_kept commands released c.Tick n one = one
 behind_kept commands released c.GaveUp n one = one
 behind_kept commands released c.Finish n one = one
 
-with_new : (commands : List Pending) (released : List ℕ) (n : ℕ) → is_open_publish is_exactly_once commands n ≡ true → is_among (with_released commands released n) n ≡ true
+pub with_new : (commands : List Pending) (released : List ℕ) (n : ℕ) → is_open_publish is_exactly_once commands n ≡ true → is_among (with_released commands released n) n ≡ true
 with_new commands released n e = by (is_open_publish is_exactly_once commands n) (is_among released n) e refl
   where
     by : (a b : Bool) → a ≡ true → is_among released n ≡ b → is_among (cond (a && not b) (released ++ n ∷ []) released) n ≡ true
@@ -286,7 +286,7 @@ with_new commands released n e = by (is_open_publish is_exactly_once commands n)
     by true false a k = behind_last released n
     by true true a k = k
 
-filter_among : (test : ℕ → Bool) (ns : List ℕ) (n : ℕ) → is_among ns n ≡ true → test n ≡ true → is_among (filter test ns) n ≡ true
+pub filter_among : (test : ℕ → Bool) (ns : List ℕ) (n : ℕ) → is_among ns n ≡ true → test n ≡ true → is_among (filter test ns) n ≡ true
 filter_among test [] n one e = one
 filter_among test (m ∷ ns) n one e = by (test m) (m == n) refl refl one (λ h. filter_among test ns n h e)
   where
@@ -418,12 +418,15 @@ goes s l past e legal kept free = by (row s l past e.at e.cause) refl legal.0
         let same : found.effects ≡ e.effects = cc in
         record { kept = kept_on s l past e legal.1 kept free found made same; unreleased = unreleased s l past e legal.1 kept free found made same; unpublished = unpublished s l past e legal.1 kept free found made same }
 
-some_free : (s : Setup) (l : Sizes) (past : List Entry) → HasIdentifiers l → IsLegalPast s l past → length (used (readings s l past)) < 65535
+pub some_free : (s : Setup) (l : Sizes) (past : List Entry) → HasIdentifiers l → IsLegalPast s l past → length (used (readings s l past)) < 65535
 some_free s l past free legal = let few = identifiers_are_few s l past legal in omega (arith, few, free)
 
 is_kept : (s : Setup) (l : Sizes) (past : List Entry) → HasIdentifiers l → IsLegalPast s l past → IsKept s l past
 is_kept s l [] free legal = record { drawn = omega arith; waits = λ n h. absurd (cc h) }
 is_kept s l (e ∷ past) free legal = (goes s l past e legal (is_kept s l past free legal.1) (some_free s l past free legal.1)).kept
+
+pub drawn_low : (s : Setup) (l : Sizes) (past : List Entry) → HasIdentifiers l → IsLegalPast s l past → last_drawn_of past ≤ 65535
+drawn_low s l past free legal = (is_kept s l past free legal).drawn
 
 pub no_released_is_published : NoReleasedIsPublished
 no_released_is_published s l [] free legal = tt

@@ -1,6 +1,6 @@
 -- Good outcomes are earned.
 use Rattle.std.proofs.Common.{◌≡◌, ℕ, zero, suc, Bool, true, false, cond, List, [], ◌∷◌, ◌++◌, map, drop, filter, Option, Some, None, refl, sym, ap, ◌∙◌, subst}
-use Rattle.std.specs.Prelude.{◌==◌, not, nat_lt, nat_le, length}
+use Rattle.std.specs.Prelude.{◌==◌, ◌||◌, not, nat_lt, nat_le, length, find}
 use Rattle.std.specs.List.{list_any, flat_map, AllByRecursion}
 use Rattle.std.proofs.lemmas.Bool.{eqb-true}
 use mathlib.Core.Logic.{inl, inr}
@@ -26,7 +26,7 @@ use Rattle.agent_journal.specs.declared.setup.Setup.{Setup}
 use Rattle.agent_journal.specs.declared.setup.Phase.{Phase}
 use Rattle.agent_journal.specs.declared.setup.Phase.TheVariants.{Down, Opening, Up, Spilled, Off}
 use Rattle.agent_journal.specs.Readings.{Pending}
-use Rattle.agent_table.specs.Arrivals.{arrived_row, arrived_in, opening_row, up_row, connack_row, first_row, resumed_row, publish_row, message_row, puback_row, pubrec_row, pubcomp_row, suback_row, unsuback_row, awaited, is_subscribe, is_unsubscribe, at, publishes_at, all_done, all_granted}
+use Rattle.agent_table.specs.Arrivals.{arrived_row, arrived_in, opening_row, up_row, connack_row, first_row, resumed_row, publish_row, message_row, puback_row, pubrec_row, pubcomp_row, suback_row, unsuback_row, awaited, counts_of, renewal_counts, is_subscribe, is_unsubscribe, at, publishes_at, all_done, all_granted}
 use Rattle.agent_table.specs.Breaks.{opened_row, broke_row, fault_row, end_row, idle_row, bytes_row, keep_alive_row, in_full_row, gave_up_row, tick_row, finish_row, down}
 use Rattle.agent_table.specs.Deliveries.{publishes, is_among, is_open_publish, is_at_least_once, is_exactly_once}
 use Rattle.agent_table.specs.Effects.{done, cancel_all, close, closed_below, lose_session, resume, again_by, renew, subscribes, pass, passed_below, is_reached, used}
@@ -34,6 +34,7 @@ use Rattle.agent_table.specs.Identifiers.{fresh}
 use Rattle.agent_table.specs.Histories.{readings, row, effects_of}
 use Rattle.agent_table.specs.Laws.{IsOneOf, Acknowledges, AcknowledgesPublish, EarnsOutcome, Earns, OutcomesAreEarned}
 use Rattle.agent_table.specs.Readings.{Readings}
+use Rattle.agent_table.specs.Routes.{asks_in}
 use Rattle.agent_table.specs.Rows.{Row, to, when, ends}
 use Rattle.agent_table.specs.Sizes.{Sizes}
 use Rattle.agent_table.specs.Table.{row_of, cause_row}
@@ -46,7 +47,7 @@ one_kept keeps true x command commands is rest (inl e) = (inl e, ap keeps e ∙ 
 one_kept keeps true x command commands is rest (inr h) = let k = rest h in (inr k.0, k.1)
 one_kept keeps false x command commands is rest h = let k = rest h in (inr k.0, k.1)
 
-kept : (keeps : Pending → Bool) (command : Pending) (commands : List Pending) → IsOneOf command (filter keeps commands) → IsOneOf command commands × (keeps command ≡ true)
+pub kept : (keeps : Pending → Bool) (command : Pending) (commands : List Pending) → IsOneOf command (filter keeps commands) → IsOneOf command commands × (keeps command ≡ true)
 kept keeps command [] h = absurd h
 kept keeps command (x ∷ commands) h = one_kept keeps (keeps x) x command commands refl (kept keeps command commands) h
 
@@ -115,6 +116,10 @@ module _ (r : Readings) (cause : Cause) where
   good_if : (b : Bool) (x y : Option Row) → GoodRow x → GoodRow y → GoodRow (cond b x y)
   good_if true x y h k = h
   good_if false x y h k = k
+
+  good_unless : (b : Bool) (x y : Option Row) → GoodRow x → (b ≡ false → GoodRow y) → GoodRow (cond b x y)
+  good_unless true x y h k = h
+  good_unless false x y h k = k refl
 
   effects_if : (b : Bool) (x y : List Effect) → (b ≡ true → Good x) → Good y → Good (cond b x y)
   effects_if true x y h k = h refl
@@ -274,7 +279,7 @@ exactly AtLeastOnce e = absurd (cc e)
 exactly ExactlyOnce e = refl
 
 by_puback : (r : Readings) (n id : ℕ) (request : Request) → id ≡ n → publishes is_at_least_once request ≡ true → Acknowledges r (c.Arrived (p.PubAck n)) id request
-by_puback r n id (requests.Publish qos topic payload) same is = subst (λ (q : Qos). AcknowledgesPublish r (c.Arrived (p.PubAck n)) id q) (sym (at_least qos is)) (ap (λ k. c.Arrived (p.PubAck k)) (sym same))
+by_puback r n id (requests.Publish qos topic payload) same is = subst (λ (q : Qos). AcknowledgesPublish (is_among r.released id ≡ true) (c.Arrived (p.PubAck n)) id q) (sym (at_least qos is)) (ap (λ k. c.Arrived (p.PubAck k)) (sym same))
 by_puback r n id (requests.Subscribe asks) same is = absurd (cc is)
 by_puback r n id (requests.Unsubscribe filters) same is = absurd (cc is)
 by_puback r n id requests.Ping same is = absurd (cc is)
@@ -284,7 +289,7 @@ by_puback r n id requests.Leave same is = absurd (cc is)
 
 by_pubcomp : (r : Readings) (n id : ℕ) (request : Request) → id ≡ n → is_among r.released n ≡ true → publishes is_exactly_once request ≡ true → Acknowledges r (c.Arrived (p.PubComp n)) id request
 by_pubcomp r n id (requests.Publish qos topic payload) same released is =
-    subst (λ (q : Qos). AcknowledgesPublish r (c.Arrived (p.PubComp n)) id q) (sym (exactly qos is)) (ap (λ k. c.Arrived (p.PubComp k)) (sym same), ap (is_among r.released) same ∙ released)
+    subst (λ (q : Qos). AcknowledgesPublish (is_among r.released id ≡ true) (c.Arrived (p.PubComp n)) id q) (sym (exactly qos is)) (ap (λ k. c.Arrived (p.PubComp k)) (sym same), ap (is_among r.released) same ∙ released)
 by_pubcomp r n id (requests.Subscribe asks) same released is = absurd (cc is)
 by_pubcomp r n id (requests.Unsubscribe filters) same released is = absurd (cc is)
 by_pubcomp r n id requests.Ping same released is = absurd (cc is)
@@ -306,6 +311,24 @@ twice_kept : (also : Pending → Bool) (n : ℕ) (command : Pending) (commands :
 twice_kept also n command commands h =
     let outer = kept also command (at n commands) h in let inner = kept (λ other. other.id == n) command commands outer.0 in (inner.0, eqb-true command.id n inner.1, outer.1)
 
+neither : (a b : Bool) → (a || b) ≡ false → (a ≡ false) × (b ≡ false)
+neither true b e = absurd (cc e)
+neither false b e = (refl, e)
+
+same_number : (b : Bool) (n m : ℕ) → (n == m) ≡ b → not b ≡ false → m ≡ n
+same_number true n m is e = sym (eqb-true n m is)
+same_number false n m is e = absurd (cc e)
+
+-- each subscribe that a SUBACK answers has as many filters as it has codes
+as_many : (codes : List ℕ) (commands : List Pending) (rest : List ℕ) (command : Pending) → list_any (λ count. not (count == length codes)) (counts_of commands ++ rest) ≡ false → IsOneOf command commands
+    → length codes ≡ length (asks_in command.request)
+as_many codes [] rest command e one = absurd one
+as_many codes (other ∷ commands) rest command e (inl same) =
+    let first = neither (not (length (asks_in other.request) == length codes)) (list_any (λ count. not (count == length codes)) (counts_of commands ++ rest)) e in
+    same_number (length (asks_in other.request) == length codes) (length (asks_in other.request)) (length codes) refl first.0 ∙ ap (λ (x : Pending). length (asks_in x.request)) (sym same)
+as_many codes (other ∷ commands) rest command e (inr later) =
+    as_many codes commands rest command (neither (not (length (asks_in other.request) == length codes)) (list_any (λ count. not (count == length codes)) (counts_of commands ++ rest)) e).1 later
+
 good_up : (s : Setup) (l : Sizes) (r : Readings) (packet : Packet) → GoodRow r (c.Arrived packet) (up_row s l r packet)
 unfolding publish_row puback_row pubrec_row pubcomp_row suback_row unsuback_row
 good_up s l r (p.Connect clean keep_alive client will user password) = good_ends r (c.Arrived (p.Connect clean keep_alive client will user password)) s
@@ -324,9 +347,12 @@ good_up s l r (p.PubComp id) =
 good_up s l r (p.Subscribe id asks) = good_ends r (c.Arrived (p.Subscribe id asks)) s
 good_up s l r (p.SubAck id codes) =
     let cause = c.Arrived (p.SubAck id codes) in
-    good_if r cause (list_any (λ count. not (count == length codes)) (awaited r id)) (ends s r) (to Up (all_granted codes (filter (λ command. is_subscribe command.request) (at id r.pending)))) (good_ends r cause s)
-    (all_of r cause (o.Granted codes) (filter (λ command. is_subscribe command.request) (at id r.pending))
-    (λ command h. let k = twice_kept (λ other. is_subscribe other.request) id command r.pending h in (command, k.0, refl, refl, ap (λ n. c.Arrived (p.SubAck n codes)) (sym k.1))))
+    let subscribes = filter (λ command. is_subscribe command.request) (at id r.pending) in
+    let renewals = renewal_counts (find (λ renewal. renewal.id == id) r.renewals) in
+    good_unless r cause (list_any (λ count. not (count == length codes)) (awaited r id)) (ends s r) (to Up (all_granted codes subscribes)) (good_ends r cause s)
+    (λ fits. all_of r cause (o.Granted codes) subscribes
+    (λ command h. let k = twice_kept (λ other. is_subscribe other.request) id command r.pending h in
+    (command, k.0, refl, refl, ap (λ n. c.Arrived (p.SubAck n codes)) (sym k.1), k.2, as_many codes subscribes renewals command fits h)))
 good_up s l r (p.Unsubscribe id filters) = good_ends r (c.Arrived (p.Unsubscribe id filters)) s
 good_up s l r (p.UnsubAck id) =
     all_of r (c.Arrived (p.UnsubAck id)) o.Done (filter (λ command. is_unsubscribe command.request) (at id r.pending))

@@ -1,4 +1,8 @@
 pub mod Worked
+pub mod WorkedTimes
+pub mod WorkedSessions
+pub mod WorkedRoutes
+pub mod WorkedRenewals
 pub mod Counts
 pub mod Commands
 pub mod Completions
@@ -7,7 +11,6 @@ pub mod Once
 pub mod Ends
 pub mod Ended
 pub mod Earned
-pub mod Received
 pub mod Fresh
 pub mod Searching
 pub mod SoundPackets
@@ -19,3 +22,13 @@ pub mod RouteLists
 pub mod Rooms
 pub mod FewUsed
 pub mod Awaiting
+pub mod Drawing
+pub mod Received
+pub mod Closes
+pub mod Closed
+pub mod Holding
+pub mod Pinging
+pub mod FirstUnused
+pub mod Receiving
+pub mod Ordered
+pub mod Sessions

@@ -17,13 +17,15 @@ use Rattle.agent_journal.specs.declared.setup.Setup.{Setup}
 use Rattle.agent_journal.specs.Sound.{IsSoundEntry}
 use Rattle.agent_journal.specs.Setups.{is_client}
 use Rattle.agent_journal.specs.Projections.{commands_of, completions_of, NoneEarly, CompletesOnce}
-use Rattle.agent_journal.specs.Readings.{Pending, pending_of}
+use Rattle.agent_journal.specs.Readings.{Pending, pending_of, sent_id}
+use Rattle.agent_table.specs.Arrivals.{is_subscribe}
 use Rattle.agent_table.specs.Awaiting.{NoneIsPublishedAgain, NoReleasedIsSent}
 use Rattle.agent_table.specs.Deliveries.{is_among, is_open_publish, is_exactly_once, released_of}
 use Rattle.agent_table.specs.Histories.{IsLegalPast, IsWholePast, readings, row, effects_of}
 use Rattle.agent_table.specs.Effects.{used}
 use Rattle.agent_table.specs.Identifiers.{fresh}
 use Rattle.agent_table.specs.Readings.{Readings}
+use Rattle.agent_table.specs.Routes.{asks_in}
 use Rattle.agent_table.specs.Sizes.{Sizes}
 
 -- how often command q of task t stands among the open ones
@@ -52,17 +54,17 @@ abbrev pub IsOneOf : Pending → List Pending → Type 0
 IsOneOf command [] = ⊥
 IsOneOf command (other ∷ commands) = (command ≡ other) ⊎ IsOneOf command commands
 
--- What acknowledges a command (MQTT 3.1.1, section 4.3): a PUBACK at QoS 1; at QoS 2 a PUBCOMP, and a PUBREC came before it;
--- an UNSUBACK.
-abbrev pub AcknowledgesPublish : Readings → Cause → ℕ → Qos → Type 0
-AcknowledgesPublish r cause id AtMostOnce = ⊥
-AcknowledgesPublish r cause id AtLeastOnce = cause ≡ c.Arrived (p.PubAck id)
-AcknowledgesPublish r cause id ExactlyOnce = (cause ≡ c.Arrived (p.PubComp id)) × (is_among r.released id ≡ true)
+-- What acknowledges a command (MQTT 3.1.1, section 4.3): a PUBACK at QoS 1; at QoS 2 a PUBCOMP, where its PUBREC was received
+-- before; an UNSUBACK. The packet names the identifier of the command's own.
+abbrev pub AcknowledgesPublish : Type 0 → Cause → ℕ → Qos → Type 0
+AcknowledgesPublish received cause id AtMostOnce = ⊥
+AcknowledgesPublish received cause id AtLeastOnce = cause ≡ c.Arrived (p.PubAck id)
+AcknowledgesPublish received cause id ExactlyOnce = (cause ≡ c.Arrived (p.PubComp id)) × received
 
-abbrev pub Acknowledges : Readings → Cause → ℕ → Request → Type 0
-Acknowledges r cause id (requests.Publish qos topic payload) = AcknowledgesPublish r cause id qos
-Acknowledges r cause id (requests.Unsubscribe filters) = cause ≡ c.Arrived (p.UnsubAck id)
-Acknowledges r cause id _ = ⊥
+abbrev pub AcknowledgesWhere : Type 0 → Cause → ℕ → Request → Type 0
+AcknowledgesWhere received cause id (requests.Publish qos topic payload) = AcknowledgesPublish received cause id qos
+AcknowledgesWhere received cause id (requests.Unsubscribe filters) = cause ≡ c.Arrived (p.UnsubAck id)
+AcknowledgesWhere received cause id _ = ⊥
 
 -- what is done with its own Take
 abbrev pub IsDoneAtOnce : Request → Type 0
@@ -72,38 +74,68 @@ IsDoneAtOnce (requests.Subscribe asks) = ⊥
 IsDoneAtOnce requests.Leave = ⊥
 IsDoneAtOnce _ = Unit {0}
 
-abbrev pub EarnsDone : Readings → Cause → ℕ → ℕ → Type 0
-EarnsDone r cause task seq =
+-- Done, of one of these open commands; `Received` says of a command that its PUBREC was received.
+abbrev pub EarnsDone : (Pending → Type 0) → List Pending → Cause → ℕ → ℕ → Type 0
+EarnsDone Received commands cause task seq =
     ((request : Request) × (cause ≡ c.Take task seq request) × IsDoneAtOnce request)
-    ⊎ ((command : Pending) × IsOneOf command r.pending × (command.task ≡ task) × (command.seq ≡ seq) × Acknowledges r cause command.id command.request)
+    ⊎ ((command : Pending) × IsOneOf command commands × (command.task ≡ task) × (command.seq ≡ seq) × AcknowledgesWhere (Received command) cause command.id command.request)
 
--- a subscribe is granted the codes of a SUBACK of its identifier
-abbrev pub EarnsCodes : Readings → Cause → ℕ → ℕ → List ℕ → Type 0
-EarnsCodes r cause task seq codes =
-    (command : Pending) × IsOneOf command r.pending × (command.task ≡ task) × (command.seq ≡ seq) × (cause ≡ c.Arrived (p.SubAck command.id codes))
+-- A subscribe is granted the codes of a SUBACK of its identifier, as many as it has filters.
+abbrev pub EarnsCodes : List Pending → Cause → ℕ → ℕ → List ℕ → Type 0
+EarnsCodes commands cause task seq codes =
+    (command : Pending) × IsOneOf command commands × (command.task ≡ task) × (command.seq ≡ seq) × (cause ≡ c.Arrived (p.SubAck command.id codes))
+    × (is_subscribe command.request ≡ true) × (length codes ≡ length (asks_in command.request))
 
-abbrev pub EarnsOutcome : Readings → Cause → ℕ → ℕ → Outcome → Type 0
-EarnsOutcome r cause task seq o.Done = EarnsDone r cause task seq
-EarnsOutcome r cause task seq (o.Granted codes) = EarnsCodes r cause task seq codes
-EarnsOutcome r cause task seq o.NoMemory = ⊥
-EarnsOutcome r cause task seq _ = Unit {0}
+abbrev pub EarnsOutcomeWhere : (Pending → Type 0) → List Pending → Cause → ℕ → ℕ → Outcome → Type 0
+EarnsOutcomeWhere Received commands cause task seq o.Done = EarnsDone Received commands cause task seq
+EarnsOutcomeWhere Received commands cause task seq (o.Granted codes) = EarnsCodes commands cause task seq codes
+EarnsOutcomeWhere Received commands cause task seq o.NoMemory = ⊥
+EarnsOutcomeWhere Received commands cause task seq _ = Unit {0}
 
 -- A good outcome is earned: by its own Take where the broker doesn't answer, or by the acknowledgement of its identifier.
-abbrev pub Earns : Readings → Cause → Effect → Type 0
-Earns r cause (f.Done task seq outcome) = EarnsOutcome r cause task seq outcome
-Earns r cause _ = Unit {0}
+abbrev pub EarnsWhere : (Pending → Type 0) → List Pending → Cause → Effect → Type 0
+EarnsWhere Received commands cause (f.Done task seq outcome) = EarnsOutcomeWhere Received commands cause task seq outcome
+EarnsWhere Received commands cause _ = Unit {0}
 
--- In a legal journal each good outcome is earned.
+-- As the table reads it, a PUBREC was received where the identifier is released.
+abbrev pub ReadsReceived : Readings → Pending → Type 0
+ReadsReceived r command = is_among r.released command.id ≡ true
+
+abbrev pub Acknowledges : Readings → Cause → ℕ → Request → Type 0
+Acknowledges r cause id request = AcknowledgesWhere (is_among r.released id ≡ true) cause id request
+
+abbrev pub EarnsOutcome : Readings → Cause → ℕ → ℕ → Outcome → Type 0
+EarnsOutcome r cause task seq outcome = EarnsOutcomeWhere (ReadsReceived r) r.pending cause task seq outcome
+
+abbrev pub Earns : Readings → Cause → Effect → Type 0
+Earns r cause effect = EarnsWhere (ReadsReceived r) r.pending cause effect
+
+-- In a legal journal each good outcome is earned, as the table reads it.
 abbrev pub OutcomesAreEarned : Type 0
 OutcomesAreEarned = (s : Setup) (l : Sizes) (past : List Entry) (at : ℕ) (cause : Cause) (effects : List Effect) → effects_of (row s l past at cause) ≡ Some effects → AllByRecursion (Earns (readings s l past) cause) effects
 
--- A publish that is released is one whose PUBREC arrived while it was open.
-abbrev pub WasReceived : ℕ → List Entry → Type 0
-WasReceived n past =
-    (behind before : List Entry) × (e : Entry) × (past ≡ behind ++ e ∷ before) × (e.cause ≡ c.Arrived (p.PubRec n)) × (is_open_publish is_exactly_once (pending_of before) n ≡ true)
+-- In the journal itself: a PUBREC of a command's identifier arrived behind the command's own Take, while it was open.
+abbrev pub WasReceived : List Entry → Pending → Type 0
+WasReceived past command =
+    (behind before : List Entry) × (e : Entry) × (past ≡ behind ++ e ∷ before) × (e.cause ≡ c.Arrived (p.PubRec command.id)) × IsOneOf command (pending_of before)
 
-abbrev pub ReleasedWereReceived : Type 0
-ReleasedWereReceived = (past : List Entry) (n : ℕ) → is_among (released_of past) n ≡ true → WasReceived n past
+-- A command that is open was taken, with this identifier on its own packet.
+abbrev pub WasTaken : List Entry → Pending → Type 0
+WasTaken past command =
+    (behind before : List Entry) × (e : Entry) × (past ≡ behind ++ e ∷ before) × (e.cause ≡ c.Take command.task command.seq command.request)
+    × (sent_id e.effects ≡ Some command.id)
+
+abbrev pub OpenWereTaken : Type 0
+OpenWereTaken = (past : List Entry) (command : Pending) → IsOneOf command (pending_of past) → WasTaken past command
+
+-- each good outcome of an entry is earned by what came before it
+abbrev pub EarnsAll : List Entry → Entry → Type 0
+EarnsAll past e = AllByRecursion (EarnsWhere (WasReceived past) (pending_of past) e.cause) e.effects
+
+-- each good outcome of a journal is earned
+abbrev pub AreEarned : List Entry → Type 0
+AreEarned [] = Unit {0}
+AreEarned (e ∷ past) = EarnsAll past e × AreEarned past
 
 -- A fresh identifier is one of 1 to 65,535, and it isn't in use where not all of them are.
 abbrev pub FreshIsFresh : Type 0
@@ -120,6 +152,16 @@ IdentifiersAreFew = (s : Setup) (l : Sizes) (past : List Entry) → IsLegalPast 
 -- So with sizes like these some identifier is always free; there are 65,535.
 abbrev pub HasIdentifiers : Sizes → Type 0
 HasIdentifiers l = l.acks + l.routes < 65535
+
+-- In a legal journal each QoS 2 publish that is open and released is one whose own PUBREC arrived.
+abbrev pub ReleasedWereReceived : Type 0
+ReleasedWereReceived =
+    (s : Setup) (l : Sizes) (past : List Entry) → HasIdentifiers l → IsLegalPast s l past → (command : Pending) → IsOneOf command (pending_of past)
+    → is_among (released_of past) command.id ≡ true → WasReceived past command
+
+-- In a legal journal each good outcome is earned, by an acknowledgement of the very command.
+abbrev pub GoodAreEarned : Type 0
+GoodAreEarned = (s : Setup) (l : Sizes) (past : List Entry) → HasIdentifiers l → IsLegalPast s l past → AreEarned past
 
 -- No entry of a legal journal sends a PUBLISH of an identifier that is released then.
 abbrev pub NoReleasedIsPublished : Type 0

@@ -17,6 +17,12 @@ pub mod Histories
 pub mod Ties
 pub mod Awaiting
 pub mod Worked
+pub mod WorkedTimes
+pub mod WorkedSessions
+pub mod WorkedRoutes
+pub mod WorkedRenewals
 pub mod Laws
-pub mod Promises
 pub mod Endings
+pub mod Closings
+pub mod Promises
+pub mod Meanings

@@ -5,14 +5,9 @@ use Rattle.agent_journal.specs.declared.entry.Entry.{Entry}
 use Rattle.agent_journal.specs.declared.request.Request.{Request}
 use Rattle.agent_journal.specs.declared.setup.Setup.{Setup}
 use Rattle.agent_journal.specs.Projections.{requests_of, CompletesOnce}
-use Rattle.agent_table.specs.Histories.{IsLegalPast, IsWholePast, readings}
-use Rattle.agent_table.specs.Laws.{Earns}
+use Rattle.agent_table.specs.Histories.{IsLegalPast, IsWholePast}
+use Rattle.agent_table.specs.Laws.{AreEarned, HasIdentifiers}
 use Rattle.agent_table.specs.Sizes.{Sizes}
-
--- each good outcome is earned, by what was read before its entry
-abbrev pub AreEarned : Setup → Sizes → List Entry → Type 0
-AreEarned s l [] = Unit {0}
-AreEarned s l (e ∷ past) = AllByRecursion (Earns (readings s l past) e.cause) e.effects × AreEarned s l past
 
 -- One legal history of the agent, gone through to its end, in which what each task asked stands once and in its order, each
 -- command has exactly one completion, and each good outcome is earned by its acknowledgement.
@@ -21,4 +16,5 @@ pub record IsHistoryOf (s : Setup) (l : Sizes) (asked : ℕ → List Request) (p
   pub whole : IsWholePast s l past
   pub taken : (t : ℕ) → t < s.tasks → requests_of t past ≡ asked t
   pub once : CompletesOnce past
-  pub earned : AreEarned s l past
+  -- where there are more identifiers than room
+  pub earned : HasIdentifiers l → AreEarned past

@@ -1,7 +1,13 @@
 //! Laws of the definitions, each the contract of a function that does nothing.
 
+ghost use Rattle.agent_table.specs.Closings as closings;
 ghost use Rattle.agent_table.specs.Laws as laws;
+ghost use Rattle.agent_table.specs.Meanings as meanings;
 ghost use Rattle.agent_table.specs.Worked as worked;
+ghost use Rattle.agent_table.specs.WorkedRenewals as renewals;
+ghost use Rattle.agent_table.specs.WorkedRoutes as routes;
+ghost use Rattle.agent_table.specs.WorkedSessions as sessions;
+ghost use Rattle.agent_table.specs.WorkedTimes as times;
 
 /// The journal of one task that publishes once is legal, and so is that of a connection that the
 /// broker refuses.
@@ -59,15 +65,13 @@ pub fn commands_complete_once()
     ensures { laws.CommandsCompleteOnce }
 {}
 
-/// A command is only done where the broker has acknowledged it, or needn't: at QoS 1 by a PUBACK of its
-/// identifier, at QoS 2 by a PUBCOMP behind a PUBREC, an unsubscribe by an UNSUBACK; and a subscribe is
-/// granted the codes of its SUBACK.
-#[tactic(auto, using(crate::proofs::Earned::outcomes_are_earned))]
+/// As the table reads it, a command is only done where the broker has acknowledged it, or needn't.
 pub fn outcomes_are_earned()
     ensures { laws.OutcomesAreEarned }
 {}
 
-/// A publish is only released behind a PUBREC that arrived while it was open.
+/// A publish is only released behind a PUBREC of its identifier that arrived behind its own Take, while it was open, where
+/// there are more identifiers than room for commands and routes.
 #[tactic(auto, using(crate::proofs::Received::released_were_received))]
 pub fn released_were_received()
     ensures { laws.ReleasedWereReceived }
@@ -105,4 +109,144 @@ pub fn no_released_is_published()
 #[tactic(auto, using(crate::proofs::Awaiting::awaited_stay_unpublished))]
 pub fn awaited_stay_unpublished()
     ensures { laws.AwaitedStayUnpublished }
+{}
+
+/// A command is only done where the broker has acknowledged this very command, or needn't: at QoS 1 by a PUBACK of its
+/// identifier, at QoS 2 by a PUBCOMP behind a PUBREC that arrived behind the command's own Take, an unsubscribe by an
+/// UNSUBACK; and a subscribe is granted the codes of its SUBACK, one for each filter.
+#[tactic(auto, using(crate::proofs::Received::good_are_earned))]
+pub fn good_are_earned()
+    ensures { laws.GoodAreEarned }
+{}
+
+/// A command that is open was taken, and its Take sent its packet with its identifier.
+#[tactic(auto, using(crate::proofs::Received::open_were_taken))]
+pub fn open_were_taken()
+    ensures { laws.OpenWereTaken }
+{}
+
+/// An agent that has ended has closed each task that hasn't left.
+#[tactic(auto, using(crate::proofs::Closed::off_has_closed))]
+pub fn off_has_closed()
+    ensures { closings.OffHasClosed }
+{}
+
+/// A task is closed only by an agent that has ended.
+#[tactic(auto, using(crate::proofs::Closed::closed_is_off))]
+pub fn closed_is_off()
+    ensures { closings.ClosedIsOff }
+{}
+
+/// Where a task was closed, and neither a Disconnect nor a Terminate was taken, the agent didn't end as Done.
+#[tactic(auto, using(crate::proofs::Closed::closed_unasked_is_a_fault))]
+pub fn closed_unasked_is_a_fault()
+    ensures { closings.ClosedUnaskedIsAFault }
+{}
+
+/// A subscribe is granted at most eight codes.
+#[tactic(auto, using(crate::proofs::Closed::granted_are_few))]
+pub fn granted_are_few()
+    ensures { closings.GrantedAreFew }
+{}
+
+/// A PINGREQ that is due, silence that breaks a connection, and what a break leaves of open commands.
+#[tactic(auto, using(crate::proofs::WorkedTimes::times_are_legal))]
+pub fn time_examples()
+    ensures { times.TimesAreLegal }
+{}
+
+/// Sessions that are wiped, and one that the agent doesn't know.
+#[tactic(auto, using(crate::proofs::WorkedSessions::sessions_are_legal))]
+pub fn session_examples()
+    ensures { sessions.SessionsAreLegal }
+{}
+
+/// Commands without room, the order in which they are sent again, and an identifier of another command.
+#[tactic(auto, using(crate::proofs::WorkedSessions::rooms_are_legal))]
+pub fn room_examples()
+    ensures { sessions.RoomsAreLegal }
+{}
+
+/// Identifiers behind 65,535.
+#[tactic(auto, using(crate::proofs::WorkedSessions::identifiers_wrap))]
+pub fn identifier_examples()
+    ensures { sessions.IdentifiersWrap }
+{}
+
+/// Two tasks with one filter.
+#[tactic(auto, using(crate::proofs::WorkedRoutes::pairs_are_legal))]
+pub fn pair_examples()
+    ensures { routes.PairsAreLegal }
+{}
+
+/// Filters that are shared, and room for routes.
+#[tactic(auto, using(crate::proofs::WorkedRoutes::shared_are_legal))]
+pub fn shared_examples()
+    ensures { routes.SharedAreLegal }
+{}
+
+/// Nine filters that are asked for again.
+#[tactic(auto, using(crate::proofs::WorkedRenewals::many_are_renewed))]
+pub fn many_examples()
+    ensures { renewals.ManyAreRenewed }
+{}
+
+/// A granted quality of service that outlives its route.
+#[tactic(auto, using(crate::proofs::WorkedRenewals::grants_outlive))]
+pub fn grant_examples()
+    ensures { renewals.GrantsOutlive }
+{}
+
+/// A held identifier is one whose QoS 2 PUBLISH was answered with PUBREC, and behind that stands neither a PUBREL of it nor a
+/// loss of the session (MQTT 3.1.1, section 4.3.3).
+#[tactic(auto, using(crate::proofs::Holding::held_are_unreleased))]
+pub fn held_are_unreleased()
+    ensures { meanings.HeldAreUnreleased }
+{}
+
+/// Each such identifier is held.
+#[tactic(auto, using(crate::proofs::Holding::unreleased_are_held))]
+pub fn unreleased_are_held()
+    ensures { meanings.UnreleasedAreHeld }
+{}
+
+/// The unanswered PINGREQ is the first one behind the last opening or PINGRESP (MQTT 3.1.1, section 3.12).
+#[tactic(auto, using(crate::proofs::Pinging::unanswered_is_first))]
+pub fn unanswered_is_first()
+    ensures { meanings.UnansweredIsFirst }
+{}
+
+/// The first PINGREQ behind the last opening or PINGRESP is unanswered.
+pub fn first_is_unanswered()
+    ensures { meanings.FirstIsUnanswered }
+{}
+
+/// Where no PINGREQ was sent since the last opening or PINGRESP, none is unanswered.
+#[tactic(auto, using(crate::proofs::Pinging::none_is_unanswered))]
+pub fn none_is_unanswered()
+    ensures { meanings.NoneIsUnanswered }
+{}
+
+/// The fresh identifier is the first, cyclically in 1 to 65,535 behind the last one drawn, that isn't in use: each between is
+/// (MQTT 3.1.1, section 2.3.1).
+#[tactic(auto, using(crate::proofs::FirstUnused::fresh_is_first_unused))]
+pub fn fresh_is_first_unused()
+    ensures { meanings.FreshIsFirstUnused }
+{}
+
+/// An open QoS 2 publish is released from its own PUBREC on.
+pub fn received_are_released()
+    ensures { meanings.ReceivedAreReleased }
+{}
+
+/// The released publishes stand in the order of their first PUBRECs.
+#[tactic(auto, using(crate::proofs::Ordered::released_are_in_order))]
+pub fn released_are_in_order()
+    ensures { meanings.ReleasedAreInOrder }
+{}
+
+/// A connection is the first one as long as no CONNACK was accepted on one with clean session 0 (MQTT 3.1.1, section 3.2.2.2).
+#[tactic(auto, using(crate::proofs::Sessions::first_has_no_session))]
+pub fn first_has_no_session()
+    ensures { meanings.FirstHasNoSession }
 {}

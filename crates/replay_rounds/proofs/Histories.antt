@@ -12,10 +12,9 @@ use Rattle.agent_journal.specs.Projections.{requests_of}
 use Rattle.agent_journal.specs.Readings.{has_left}
 use Rattle.agent_script.specs.Asked.{asked}
 use Rattle.agent_table.specs.Histories.{IsLegalPast, IsWholePast, phase_of}
-use Rattle.agent_table.specs.Promises.{AreEarned}
 use Rattle.agent_table.specs.Sizes.{Sizes}
-use Rattle.agent_table.proofs.Earned.{outcomes_are_earned}
 use Rattle.agent_table.proofs.Ended.{commands_complete_once}
+use Rattle.agent_table.proofs.Received.{good_are_earned}
 use Rattle.replay_rounds.specs.World.{phase_in}
 use Rattle.broker_tape.specs.declared.tape.Item.{Item}
 use Rattle.broker_tape.specs.Given.{GivesBytes}
@@ -49,10 +48,6 @@ off_ends : (s : Setup) (l : Sizes) (past : List Entry) → phase_of s l past ≡
 off_ends s l [] off = absurd (cc off)
 off_ends s l (e ∷ past) off = ends_by (is_off (phase_of s l past)) s l e past refl (λ was. off_ends s l past (off_is (phase_of s l past) was)) off
 
-all_earned : (s : Setup) (l : Sizes) (past : List Entry) → IsLegalPast s l past → AreEarned s l past
-all_earned s l [] h = tt
-all_earned s l (e ∷ past) h = (outcomes_are_earned s l past e.at e.cause e.effects h.0, all_earned s l past h.1)
-
 is_history : (n : ℕ) (setup : Setup) (sizes : Sizes) (tick : ℕ) (script : Script) (items : List Item) → setup.tasks ≡ 1 → AllByRecursion IsValidLine script.lines → GivesBytes items
     → has_ended (after n (begun setup sizes tick script.lines items)) ≡ true → IsTiedHistory setup sizes script (after n (begun setup sizes tick script.lines items))
 is_history n setup sizes tick script items one valid gives ended =
@@ -72,7 +67,7 @@ is_history n setup sizes tick script items one valid gives ended =
             whole = whole;
             taken = λ t within. let none : 0 ≡ t = omega (arith, within, one) in subst (λ k. requests_of k w.past ≡ asked script k) none (replays_take_all setup sizes tick script.lines items w one valid (record { rounds = n; is = refl; ended = ended }));
             once = commands_complete_once setup sizes w.past legal whole;
-            earned = all_earned setup sizes w.past legal;
+            earned = λ free. good_are_earned setup sizes w.past free legal;
           };
       ending = end.0;
       ended = end.1;
