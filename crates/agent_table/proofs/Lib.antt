@@ -19,3 +19,5 @@ pub mod RouteLists
 pub mod Rooms
 pub mod FewUsed
 pub mod Awaiting
+pub mod Connecting
+pub mod Told

@@ -2,6 +2,7 @@
 #![tactic(auto)]
 
 mod laws;
+mod offs;
 
 pub use laws::{
     awaited_stay_unpublished, commands_complete_once, delivery_examples, each_is_open_or_done,
@@ -9,3 +10,4 @@ pub use laws::{
     message_examples, no_released_is_published, none_is_early, outcomes_are_earned,
     packets_are_sound, released_were_received, renewal_examples,
 };
+pub use offs::{off_is_told, only_opened_connects, terminated_is_told};
