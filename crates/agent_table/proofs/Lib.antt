@@ -21,3 +21,5 @@ pub mod FewUsed
 pub mod Awaiting
 pub mod Connecting
 pub mod Told
+pub mod BreaksFew
+pub mod OnlyTasks

@@ -48,7 +48,7 @@ not_terminate : (cause : Cause) (row : Option Row) → takes_terminate cause ≡
 not_terminate cause None nay = tt
 not_terminate cause (Some row) nay = λ e. absurd (cc (sym e ∙ nay))
 
-sends_behind : (outcome : Outcome) (commands : List Pending) (rest : List Effect) → sends (map (done outcome) commands ++ rest) ≡ sends rest
+pub sends_behind : (outcome : Outcome) (commands : List Pending) (rest : List Effect) → sends (map (done outcome) commands ++ rest) ≡ sends rest
 sends_behind outcome [] rest = refl
 sends_behind outcome (command ∷ commands) rest = sends_behind outcome commands rest
 

@@ -10,4 +10,7 @@ pub use laws::{
     message_examples, no_released_is_published, none_is_early, outcomes_are_earned,
     packets_are_sound, released_were_received, renewal_examples,
 };
-pub use offs::{off_is_told, only_opened_connects, terminated_is_told};
+pub use offs::{
+    breaks_are_few, none_is_open_in_off, off_is_told, only_opened_connects, only_tasks_take,
+    terminated_is_told,
+};

@@ -20,3 +20,20 @@ pub fn terminated_is_told()
 pub fn only_opened_connects()
     ensures { laws.OnlyOpenedConnects }
 {}
+
+/// In a legal journal connections and openings break at most once more than they may be opened again.
+#[tactic(auto, using(crate::proofs::BreaksFew::breaks_are_few))]
+pub fn breaks_are_few()
+    ensures { laws.BreaksAreFew }
+{}
+
+/// In a legal journal only tasks below `tasks` take anything.
+pub fn only_tasks_take()
+    ensures { laws.OnlyTasksTake }
+{}
+
+/// In Off nothing is open, whichever tasks have left.
+#[tactic(auto, using(crate::proofs::Ended::none_is_open_in_off))]
+pub fn none_is_open_in_off()
+    ensures { laws.NoneIsOpenInOff }
+{}
