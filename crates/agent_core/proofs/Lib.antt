@@ -8,6 +8,7 @@ mod Acknowledged
 mod Passes
 mod Arrivals
 mod Packets
+mod Named
 mod Ties
 mod Endeds
 mod Openings

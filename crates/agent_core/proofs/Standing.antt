@@ -15,7 +15,7 @@ use Rattle.agent_journal.specs.declared.request.Request.{Request}
 use Rattle.agent_journal.specs.declared.setup.Phase.{Phase}
 use Rattle.agent_journal.specs.declared.setup.Phase.TheVariants.{Down, Opening, Up, Spilled, Off}
 use Rattle.agent_journal.specs.declared.setup.Setup.{Setup}
-use Rattle.agent_journal.specs.Readings.{Pending, opens, opened_by, sent_id, accepted_of, pending_of}
+use Rattle.agent_journal.specs.Readings.{Pending, opens, opened_by, sent_id, accepted_of, pending_of, sent_filters}
 use Rattle.agent_table.specs.Histories.{IsLegalPast, phase_of, phase_by, readings, row, effects_of, due_by}
 use Rattle.agent_table.specs.Readings.{Readings, unless_off}
 use Rattle.agent_table.specs.Routes.{while_opening, renewals_of, routes_of, renewable_of, unsure_of}
@@ -25,7 +25,7 @@ use Rattle.agent_table.specs.Table.{row_of, cause_row}
 use Rattle.pending_acks.specs.Commands.{Differ, has_id}
 use Rattle.subscriptions.specs.Routing.{routes, renewable}
 use Rattle.agent_core.specs.After.{after}
-use Rattle.agent_core.specs.Kept.{Kept, readings_in, row_now, beginning}
+use Rattle.agent_core.specs.Kept.{Kept, readings_in, row_now, beginning, most_accepted}
 use Rattle.agent_core.specs.Laws.{IsSound, StandsAtFirst, RowsAreSame, StandsBehind}
 use Rattle.agent_core.specs.Renewing.{as_list}
 use Rattle.agent_core.specs.Stands.{StandsFor}
@@ -56,14 +56,14 @@ stands_at_first s l = record {
     takes = λ t. each_is s.tasks t 0;
     left = λ t. each_is s.tasks t false;
     breaks = none_most (s.reopen + 2);
-    accepted = refl;
+    accepted = none_most (most_accepted s);
     pending = refl;
     released = refl;
     held = refl;
     last_drawn = refl;
     ping = refl;
     last_sent = refl;
-    terminated = refl;
+    off = refl;
   };
   routes = λ goes. routed_begins s;
 }
@@ -90,7 +90,7 @@ not_off phase opening off = absurd (cc (sym opening ∙ off))
 readings_same : (k : Kept) (past : List Entry) → StandsFor k past → readings_in k ≡ readings k.setup k.sizes past
 readings_same k past stands =
     let is : k.phase ≡ phase_of k.setup k.sizes past = stands.keeps.phase in
-    same_readings k past stands.keeps
+    same_readings k past stands.legal stands.keeps
     (unless_same k.phase (routes k.routing) (routes_of past) (λ goes. stands_routes k.setup past k.routing (stands.routes (λ off. goes (is ∙ off)))))
     (unless_same k.phase k.routing.renewals (renewals_of past) (λ goes. stands_renewals k.setup past k.routing (stands.routes (λ off. goes (is ∙ off)))))
     (opening_same k.phase (renewable true k.routing) (renewable_of past) (λ opening. stands_renewable k.setup k.sizes past k.routing stands.legal (sym is ∙ opening) (stands.routes (not_off (phase_of k.setup k.sizes past) (sym is ∙ opening)))))
@@ -101,26 +101,26 @@ rows_are_same k past at cause stands = ap (λ (r : Readings). row_of k.setup k.s
 
 -- ---- Commands differ
 
-abbrev opened_in : ℕ → ℕ → Request → Option ℕ → Option Pending
-opened_in task seq request None = None
-opened_in task seq request (Some id) = Some (record { id = id; task = task; seq = seq; request = request })
+abbrev opened_in : ℕ → ℕ → Request → List (List ℕ) → Option ℕ → Option Pending
+opened_in task seq request names None = None
+opened_in task seq request names (Some id) = Some (record { id = id; task = task; seq = seq; request = request; sent_filters = names })
 
 abbrev opened : Cause → List Effect → Option Pending
 opened c.Opened effects = None
-opened (c.Take task seq request) effects = opened_in task seq request (sent_id effects)
+opened (c.Take task seq request) effects = opened_in task seq request (sent_filters effects) (sent_id effects)
 opened (c.Arrived packet) effects = None
 opened (c.Broke why) effects = None
 opened c.Tick effects = None
 opened c.GaveUp effects = None
 opened c.Finish effects = None
 
-opened_lists : (task seq : ℕ) (request : Request) (id : Option ℕ) → as_list (opened_in task seq request id) ≡ opened_by task seq request id
-opened_lists task seq request None = refl
-opened_lists task seq request (Some id) = refl
+opened_lists : (task seq : ℕ) (request : Request) (names : List (List ℕ)) (id : Option ℕ) → as_list (opened_in task seq request names id) ≡ opened_by task seq request names id
+opened_lists task seq request names None = refl
+opened_lists task seq request names (Some id) = refl
 
 opened_is : (cause : Cause) (effects : List Effect) → as_list (opened cause effects) ≡ opens cause effects
 opened_is c.Opened effects = refl
-opened_is (c.Take task seq request) effects = opened_lists task seq request (sent_id effects)
+opened_is (c.Take task seq request) effects = opened_lists task seq request (sent_filters effects) (sent_id effects)
 opened_is (c.Arrived packet) effects = refl
 opened_is (c.Broke why) effects = refl
 opened_is c.Tick effects = refl

@@ -5,6 +5,7 @@ mod agent;
 mod awaited;
 mod books;
 mod effects;
+mod filters;
 mod identifiers;
 mod laws;
 mod noted;
