@@ -25,8 +25,8 @@ use Rattle.agent_table.specs.Deliveries.{publishes}
 use Rattle.agent_table.specs.Identifiers.{last_or}
 use Rattle.agent_table.specs.Readings.{read_at, unless_off}
 use Rattle.agent_table.specs.Routes.{routes_of, renewals_of, renewable_of, unsure_of, while_opening}
-use Rattle.agent_table.specs.Sends.{has_send, drawn_in}
-use Rattle.subscriptions.specs.Routing.{routes, renewable}
+use Rattle.agent_table.specs.Sends.{drawn_in}
+use Rattle.subscriptions.specs.Routing.{renewable}
 use Rattle.agent_table.specs.Rows.{Row}
 use Rattle.agent_table.specs.Offs.{is_connected}
 use Rattle.agent_table.specs.Sessions.{loses_session, ping_of, last_sent_of}
@@ -159,11 +159,11 @@ single_open k past legal is = subst (λ (cs : List Pending). IsSingle cs) (sym i
     let most = at_most_one (nat_lt q (commands_of t past)) in
     omega (arith, sum, most))
 
--- what the table reads is what is kept
-pub same_readings : (k : Kept) (past : List Entry) → IsLegalPast k.setup k.sizes past → Keeps k past → unless_off k.phase (routes k.routing) ≡ unless_off k.phase (routes_of past) → unless_off k.phase k.routing.renewals ≡ unless_off k.phase (renewals_of past)
+-- what the table reads is what is kept, but for the order of routes
+pub same_readings : (k : Kept) (past : List Entry) → IsLegalPast k.setup k.sizes past → Keeps k past → unless_off k.phase k.routing.renewals ≡ unless_off k.phase (renewals_of past)
     → while_opening k.phase (renewable true k.routing) ≡ while_opening k.phase (renewable_of past) → while_opening k.phase (renewable false k.routing) ≡ while_opening k.phase (unsure_of k.setup past)
-    → readings_in k ≡ readings k.setup k.sizes past
-same_readings k past legal keeps routes_are renewals_are all_are unsure_are =
+    → record (readings_in k) { routes = unless_off k.phase (routes_of past) } ≡ readings k.setup k.sizes past
+same_readings k past legal keeps renewals_are all_are unsure_are =
     (λ i. record {
       phase = k.phase;
       last_time = keeps.last_time i;
@@ -179,7 +179,7 @@ same_readings k past legal keeps routes_are renewals_are all_are unsure_are =
       last_drawn = keeps.last_drawn i;
       ping = keeps.ping i;
       last_sent = keeps.last_sent i;
-      routes = routes_are i;
+      routes = unless_off k.phase (routes_of past);
       renewals = renewals_are i;
       renewable = all_are i;
       unsure = unsure_are i;

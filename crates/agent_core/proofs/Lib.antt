@@ -24,6 +24,10 @@ mod Alone
 mod Closing
 mod Keeping
 mod Following
+mod Reorders
+mod SortedSame
+mod SameRows
+mod Alike
 mod RoutedLists
 mod Routed
 mod RoutedEnds
