@@ -11,7 +11,12 @@ use Rattle.agent_journal.specs.declared.entry.Entry.{Entry}
 use Rattle.agent_journal.specs.declared.effect.Effect.{Effect}
 use Rattle.agent_journal.specs.declared.effect.Effect.TheVariants as f
 use Rattle.agent_journal.specs.declared.request.Request.{Request}
-use Rattle.agent_journal.specs.Readings.{Pending, opens, opened_by, sent_id, stays_open, pending_of, accepted_of, takes_behind, leaves_by, breaks_of}
+use Rattle.agent_journal.specs.Readings.{Pending, opens, opened_by, sent_id, stays_open, pending_of, accepted_of, takes_behind, leaves_by, breaks_of, sent_filters}
+use Rattle.agent_journal.specs.declared.setup.Phase.{Phase}
+use Rattle.agent_journal.specs.Endings.{off_behind}
+use Rattle.agent_journal.specs.Offs.{is_terminated}
+use Rattle.agent_table.proofs.Connecting.{only_opened_connects}
+use Rattle.agent_table.proofs.Told.{terminated_is_told}
 use Rattle.agent_table.proofs.Once.{each_is_open_or_done}
 use Rattle.agent_table.specs.Deliveries.{released_behind, held_behind, with_released, is_open_publish, is_exactly_once, is_among}
 use Rattle.agent_table.specs.Histories.{IsLegalPast, phase_of, phase_by, readings, row}
@@ -20,11 +25,11 @@ use Rattle.agent_table.specs.Deliveries.{publishes}
 use Rattle.agent_table.specs.Identifiers.{last_or}
 use Rattle.agent_table.specs.Readings.{read_at, unless_off}
 use Rattle.agent_table.specs.Routes.{routes_of, renewals_of, renewable_of, unsure_of, while_opening}
-use Rattle.agent_table.specs.Sends.{has_send, drawn_in}
-use Rattle.agent_table.specs.Terminations.{takes_terminate}
-use Rattle.subscriptions.specs.Routing.{routes, renewable}
+use Rattle.agent_table.specs.Sends.{drawn_in}
+use Rattle.subscriptions.specs.Routing.{renewable}
 use Rattle.agent_table.specs.Rows.{Row}
-use Rattle.agent_table.specs.Sessions.{loses_session, while_connected, ping_behind, sent_behind}
+use Rattle.agent_table.specs.Offs.{is_connected}
+use Rattle.agent_table.specs.Sessions.{loses_session, ping_of, last_sent_of}
 use Rattle.agent_table.specs.Table.{cause_row}
 use Rattle.agent_core.specs.After.{after, begun, closed}
 use Rattle.agent_core.specs.Completions.{all_ended}
@@ -33,7 +38,7 @@ use Rattle.agent_core.specs.Stands.{Keeps}
 use Rattle.agent_core.specs.Tied.{InRange}
 use Rattle.agent_core.proofs.Alone.{take_alone}
 use Rattle.agent_core.proofs.Closing.{IsApart, IsSingle, pending_closed, released_closed}
-use Rattle.agent_core.proofs.Noting.{wiping_same, first_same, breaks_next, accepted_next, lost_same, takes_next, left_next, IsNext}
+use Rattle.agent_core.proofs.Noting.{wiping_same, first_same, breaks_next, accepted_next, lost_same, takes_next, left_next, ping_next, sent_next, IsNext}
 
 -- ---- Commands that are opened
 
@@ -43,7 +48,7 @@ OpensAlone cause effects = (opens cause effects ≡ []) ⊎ ((packet : Packet) �
 
 one_or_none : (task seq : ℕ) (request : Request) (effects : List Effect) (id : Option ℕ) → sent_id effects ≡ id → ((n : ℕ) → sent_id effects ≡ Some n → (packet : Packet) × (effects ≡ f.Send packet ∷ []))
     → OpensAlone (c.Take task seq request) effects
-one_or_none task seq request effects None is alone = inl (ap (opened_by task seq request) is)
+one_or_none task seq request effects None is alone = inl (ap (opened_by task seq request (sent_filters effects)) is)
 one_or_none task seq request effects (Some id) is alone = inr (alone id is)
 
 opens_alone : (k : Kept) (at : ℕ) (cause : Cause) (row : Row) → cause_row k.setup k.sizes (readings_in k) at cause ≡ Some row → OpensAlone cause row.effects
@@ -154,11 +159,11 @@ single_open k past legal is = subst (λ (cs : List Pending). IsSingle cs) (sym i
     let most = at_most_one (nat_lt q (commands_of t past)) in
     omega (arith, sum, most))
 
--- what the table reads is what is kept
-pub same_readings : (k : Kept) (past : List Entry) → Keeps k past → unless_off k.phase (routes k.routing) ≡ unless_off k.phase (routes_of past) → unless_off k.phase k.routing.renewals ≡ unless_off k.phase (renewals_of past)
+-- what the table reads is what is kept, but for the order of routes
+pub same_readings : (k : Kept) (past : List Entry) → IsLegalPast k.setup k.sizes past → Keeps k past → unless_off k.phase k.routing.renewals ≡ unless_off k.phase (renewals_of past)
     → while_opening k.phase (renewable true k.routing) ≡ while_opening k.phase (renewable_of past) → while_opening k.phase (renewable false k.routing) ≡ while_opening k.phase (unsure_of k.setup past)
-    → readings_in k ≡ readings k.setup k.sizes past
-same_readings k past keeps routes_are renewals_are all_are unsure_are =
+    → record (readings_in k) { routes = unless_off k.phase (routes_of past) } ≡ readings k.setup k.sizes past
+same_readings k past legal keeps renewals_are all_are unsure_are =
     (λ i. record {
       phase = k.phase;
       last_time = keeps.last_time i;
@@ -172,13 +177,13 @@ same_readings k past keeps routes_are renewals_are all_are unsure_are =
       released = keeps.released i;
       held = keeps.held i;
       last_drawn = keeps.last_drawn i;
-      ping = while_connected k.phase (keeps.ping i);
-      last_sent = while_connected k.phase (keeps.last_sent i);
-      routes = routes_are i;
+      ping = keeps.ping i;
+      last_sent = keeps.last_sent i;
+      routes = unless_off k.phase (routes_of past);
       renewals = renewals_are i;
       renewable = all_are i;
       unsure = unsure_are i;
-      terminated = keeps.terminated i;
+      terminated = (ap is_terminated keeps.off ∙ sym (terminated_is_told k.setup k.sizes past legal)) i;
     }) ∙ ap (λ phase. read_at k.setup phase past) keeps.phase
 
 module _ (k : Kept) (past : List Entry) (at : ℕ) (cause : Cause) (found : Row) where
@@ -190,16 +195,19 @@ module _ (k : Kept) (past : List Entry) (at : ℕ) (cause : Cause) (found : Row)
   keeps_next legal apart released_are_open range next has is keeps =
       let alone = opens_alone k at cause found has in
       let single = single_open k past legal keeps.pending in
+      let phase : found.phase ≡ phase_of k.setup k.sizes (entry ∷ past) = sym (ap (λ r. phase_by r (phase_of k.setup k.sizes past)) is) in
+      let leads : is_connected found.phase ≡ true → (is_connected k.phase ≡ true) ⊎ (cause ≡ c.Opened) =
+      λ to. subst (λ (p : Phase). (is_connected p ≡ true) ⊎ (cause ≡ c.Opened)) (sym keeps.phase) (only_opened_connects k.setup k.sizes past at cause found is to) in
       let commands : (closed k cause found.effects).pending ≡ pending_of (entry ∷ past) =
       pending_same k cause found.effects alone apart single ∙ ap (λ cs. filter (stays_open found.effects) (cs ++ opens cause found.effects)) keeps.pending in
       record {
-        phase = sym (ap (λ r. phase_by r (phase_of k.setup k.sizes past)) is);
+        phase = phase;
         last_time = refl;
         just_sent = refl;
         takes = λ t. takes_next cause k.takes (length k.left) t range next ∙ ap (takes_behind t cause) (keeps.takes t);
         left = λ t. left_next cause k.left (length k.takes) t range ∙ ap (λ b. leaves_by t cause || b) (keeps.left t);
         breaks = breaks_next k.setup cause (breaks_of past) k.breaks keeps.breaks;
-        accepted = accepted_next cause (accepted_of past) k.accepted keeps.accepted;
+        accepted = accepted_next k.setup cause (accepted_of past) k.accepted keeps.accepted;
         pending = commands;
         released = released_same k cause found.effects alone apart single released_are_open
             ∙ ap (λ cs. filter (is_open_publish is_exactly_once (filter (stays_open found.effects) (cs ++ opens cause found.effects))) (released_behind cs k.released cause)) keeps.pending
@@ -207,7 +215,8 @@ module _ (k : Kept) (past : List Entry) (at : ℕ) (cause : Cause) (found : Row)
         held = ap (λ lost. if lost then [] else held_behind cause entry k.held) (lost_same k.setup (accepted_of past) k.accepted cause keeps.accepted)
             ∙ ap (λ ns. if loses_session k.setup (accepted_of past) cause then [] else held_behind cause entry ns) keeps.held;
         last_drawn = ap (λ n. last_or n (drawn_in found.effects)) keeps.last_drawn;
-        ping = ap (ping_behind entry) keeps.ping;
-        last_sent = ap (sent_behind entry) keeps.last_sent;
-        terminated = ap (λ b. (takes_terminate cause && has_send found.effects) || b) keeps.terminated;
+        ping = ping_next entry k.phase found.phase leads k.ping (ping_of past) keeps.ping;
+        last_sent = sent_next entry k.phase found.phase leads k.last_sent (last_sent_of past) keeps.last_sent;
+        off = ap (λ p. off_behind p found.phase cause k.off) keeps.phase ∙ ap (λ p. off_behind (phase_of k.setup k.sizes past) p cause k.off) phase
+            ∙ ap (off_behind (phase_of k.setup k.sizes past) (phase_of k.setup k.sizes (entry ∷ past)) cause) keeps.off;
       }

@@ -8,6 +8,7 @@ mod Acknowledged
 mod Passes
 mod Arrivals
 mod Packets
+mod Named
 mod Ties
 mod Endeds
 mod Openings
@@ -23,6 +24,10 @@ mod Alone
 mod Closing
 mod Keeping
 mod Following
+mod Reorders
+mod SortedSame
+mod SameRows
+mod Alike
 mod RoutedLists
 mod Routed
 mod RoutedEnds

@@ -1,17 +1,22 @@
 -- What is kept behind an entry is what the journal with that entry reads as: numbers, tasks, times.
-use Rattle.std.proofs.Common.{◌≡◌, ◌≢◌, ℕ, ◌+◌, ◌<◌, ◌≤◌, Bool, true, false, not, List, length, refl, ap, sym, ◌∙◌, subst, arith, inl, inr, get_or-set_same, get_or-set_other}
+use Rattle.std.proofs.Common.{◌≡◌, ◌≢◌, ◌⊎◌, Option, ℕ, ◌+◌, ◌<◌, ◌≤◌, Bool, true, false, not, List, length, refl, ap, sym, ◌∙◌, subst, arith, inl, inr, get_or-set_same, get_or-set_other}
 use Rattle.std.specs.Prelude.{◌&&◌, ◌||◌, ◌==◌, nat_le, if◌then◌else◌, slice_index_or, slice_set}
 use Rattle.std.proofs.lemmas.Bool.{cases_Bool, eqb-true, eq-eqb}
 use Rattle.std.proofs.lemmas.Bool.Decides.{nat_tests}
 use Rattle.agent_journal.specs.declared.entry.Cause.{Cause}
 use Rattle.agent_journal.specs.declared.entry.Cause.TheVariants as c
+use Rattle.agent_journal.specs.declared.entry.Entry.{Entry}
 use Rattle.agent_journal.specs.declared.setup.Setup.{Setup}
+use Rattle.agent_journal.specs.declared.setup.Phase.{Phase}
+use Rattle.agent_journal.specs.declared.setup.Phase.TheVariants.{Down, Opening, Up, Spilled, Off}
 use Rattle.agent_journal.specs.Readings.{is_leave, takes_behind, leaves_by, breaks_behind, accepted_behind, accepts, is_break}
 use Rattle.agent_table.specs.Readings.{at_most}
-use Rattle.agent_table.specs.Sessions.{is_wiping, is_first, loses, loses_session}
+use Rattle.agent_table.specs.Offs.{is_connected}
+use Rattle.agent_table.specs.Sessions.{is_wiping, is_first, loses, loses_session, while_connected, ping_behind, sent_behind}
 use Rattle.mqtt_packet.specs.declared.packet.Packet.{Packet}
 use Rattle.mqtt_packet.specs.declared.packet.Packet.TheVariants as p
 use Rattle.agent_core.specs.After.{takes_with, left_with, breaks_with, accepted_with}
+use Rattle.agent_core.specs.Kept.{most_accepted}
 use Rattle.agent_core.specs.Tied.{InRange}
 
 -- ---- Numbers that stop
@@ -40,46 +45,53 @@ breaks_next s cause n k e = go (accepts cause) (is_break cause)
     go false true = ap (λ m. at_most (s.reopen + 2) (m + 1)) e ∙ one_more (s.reopen + 2) n
     go false false = e
 
-pub accepted_next : (cause : Cause) (n k : ℕ) → k ≡ at_most 2 n → accepted_with cause k ≡ at_most 2 (accepted_behind cause n)
-accepted_next cause n k e = go (accepts cause)
+pub accepted_next : (s : Setup) (cause : Cause) (n k : ℕ) → k ≡ at_most (most_accepted s) n → accepted_with s cause k ≡ at_most (most_accepted s) (accepted_behind cause n)
+accepted_next s cause n k e = go (accepts cause)
   where
-    go : (a : Bool) → (if a then at_most 2 (k + 1) else k) ≡ at_most 2 (if a then n + 1 else n)
-    go true = ap (λ m. at_most 2 (m + 1)) e ∙ one_more 2 n
+    go : (a : Bool) → (if a then at_most (most_accepted s) (k + 1) else k) ≡ at_most (most_accepted s) (if a then n + 1 else n)
+    go true = ap (λ m. at_most (most_accepted s) (m + 1)) e ∙ one_more (most_accepted s) n
     go false = e
 
--- two CONNACKs read like more
-zero_same : (n : ℕ) → (at_most 2 n == 0) ≡ (n == 0)
-zero_same n = go (nat_le n 2) refl
+-- so many CONNACKs read like more
+zero_same : (most n : ℕ) → 1 ≤ most → (at_most most n == 0) ≡ (n == 0)
+zero_same most n some = go (nat_le n most) refl
   where
-    go : (b : Bool) → nat_le n 2 ≡ b → (at_most 2 n == 0) ≡ (n == 0)
-    go true e = ap (λ m. m == 0) (most_is 2 n true e)
-    go false e = let right : (n == 0) ≡ false = grind (arith, nat_tests) in ap (λ m. m == 0) (most_is 2 n false e) ∙ sym right
-
-few_same : (limit n : ℕ) → limit ≤ 1 → nat_le (at_most 2 n) limit ≡ nat_le n limit
-few_same limit n small = go (nat_le n 2) refl
-  where
-    go : (b : Bool) → nat_le n 2 ≡ b → nat_le (at_most 2 n) limit ≡ nat_le n limit
-    go true e = ap (λ m. nat_le m limit) (most_is 2 n true e)
+    go : (b : Bool) → nat_le n most ≡ b → (at_most most n == 0) ≡ (n == 0)
+    go true e = ap (λ m. m == 0) (most_is most n true e)
     go false e =
-        let left : nat_le 2 limit ≡ false = grind (arith, nat_tests) in
+        let left : (most == 0) ≡ false = grind (arith, nat_tests) in
+        let right : (n == 0) ≡ false = grind (arith, nat_tests) in
+        ap (λ m. m == 0) (most_is most n false e) ∙ left ∙ sym right
+
+few_same : (most limit n : ℕ) → limit < most → nat_le (at_most most n) limit ≡ nat_le n limit
+few_same most limit n above = go (nat_le n most) refl
+  where
+    go : (b : Bool) → nat_le n most ≡ b → nat_le (at_most most n) limit ≡ nat_le n limit
+    go true e = ap (λ m. nat_le m limit) (most_is most n true e)
+    go false e =
+        let left : nat_le most limit ≡ false = grind (arith, nat_tests) in
         let right : nat_le n limit ≡ false = grind (arith, nat_tests) in
-        ap (λ m. nat_le m limit) (most_is 2 n false e) ∙ left ∙ sym right
+        ap (λ m. nat_le m limit) (most_is most n false e) ∙ left ∙ sym right
 
-small_limit : (b : Bool) → (if b then 1 else 0) ≤ 1
-small_limit true = omega arith
-small_limit false = omega arith
+some_most : (b : Bool) → 1 ≤ (if b then 2 else 1)
+some_most true = omega arith
+some_most false = omega arith
 
-pub wiping_same : (s : Setup) (n k : ℕ) → k ≡ at_most 2 n → is_wiping s k ≡ is_wiping s n
-wiping_same s n k e = ap (λ b. s.wipe && b) (ap (λ m. m == 0) e ∙ zero_same n)
+below_most : (b : Bool) → (if b then 1 else 0) < (if b then 2 else 1)
+below_most true = omega arith
+below_most false = omega arith
 
-pub first_same : (s : Setup) (n k : ℕ) → k ≡ at_most 2 n → is_first s k ≡ is_first s n
-first_same s n k e = ap (λ m. nat_le m (if s.wipe then 1 else 0)) e ∙ few_same (if s.wipe then 1 else 0) n (small_limit s.wipe)
+pub wiping_same : (s : Setup) (n k : ℕ) → k ≡ at_most (most_accepted s) n → is_wiping s k ≡ is_wiping s n
+wiping_same s n k e = ap (λ b. s.wipe && b) (ap (λ m. m == 0) e ∙ zero_same (most_accepted s) n (some_most s.wipe))
 
-loses_same : (s : Setup) (n k : ℕ) (present : Bool) (code : ℕ) → k ≡ at_most 2 n → loses s k present code ≡ loses s n present code
+pub first_same : (s : Setup) (n k : ℕ) → k ≡ at_most (most_accepted s) n → is_first s k ≡ is_first s n
+first_same s n k e = ap (λ m. nat_le m (if s.wipe then 1 else 0)) e ∙ few_same (most_accepted s) (if s.wipe then 1 else 0) n (below_most s.wipe)
+
+loses_same : (s : Setup) (n k : ℕ) (present : Bool) (code : ℕ) → k ≡ at_most (most_accepted s) n → loses s k present code ≡ loses s n present code
 loses_same s n k present code e =
     ap (λ w. code == 0 && not present && not w && not (is_first s k)) (wiping_same s n k e) ∙ ap (λ f. code == 0 && not present && not (is_wiping s n) && not f) (first_same s n k e)
 
-pub lost_same : (s : Setup) (n k : ℕ) (cause : Cause) → k ≡ at_most 2 n → loses_session s k cause ≡ loses_session s n cause
+pub lost_same : (s : Setup) (n k : ℕ) (cause : Cause) → k ≡ at_most (most_accepted s) n → loses_session s k cause ≡ loses_session s n cause
 lost_same s n k c.Opened e = refl
 lost_same s n k (c.Take task seq request) e = refl
 lost_same s n k (c.Arrived packet) e = by packet
@@ -159,3 +171,35 @@ left_next (c.Broke why) left takes t within = refl
 left_next c.Tick left takes t within = refl
 left_next c.GaveUp left takes t within = refl
 left_next c.Finish left takes t within = refl
+
+-- ---- Times of the connection
+
+-- only while there is a connection, which only Opened begins anew
+connected_as : (phase : Phase) (old new : Option ℕ) → (is_connected phase ≡ true → old ≡ new) → while_connected phase old ≡ while_connected phase new
+connected_as Down old new same = refl
+connected_as Opening old new same = same refl
+connected_as Up old new same = same refl
+connected_as Spilled old new same = refl
+connected_as Off old new same = refl
+
+connected_is : (phase : Phase) (old new : Option ℕ) → is_connected phase ≡ true → while_connected phase old ≡ while_connected phase new → old ≡ new
+connected_is Down old new here same = absurd (cc here)
+connected_is Opening old new here same = same
+connected_is Up old new here same = same
+connected_is Spilled old new here same = absurd (cc here)
+connected_is Off old new here same = absurd (cc here)
+
+module _ (e : Entry) (before behind : Phase) (leads : is_connected behind ≡ true → (is_connected before ≡ true) ⊎ (e.cause ≡ c.Opened)) where
+  pub ping_next : (old new : Option ℕ) → while_connected before old ≡ while_connected before new → while_connected behind (ping_behind e old) ≡ while_connected behind (ping_behind e new)
+  ping_next old new same = connected_as behind (ping_behind e old) (ping_behind e new) (λ to. go (leads to))
+    where
+      go : (is_connected before ≡ true) ⊎ (e.cause ≡ c.Opened) → ping_behind e old ≡ ping_behind e new
+      go (inl here) = ap (ping_behind e) (connected_is before old new here same)
+      go (inr opened) = ap (λ (cause : Cause). ping_behind (record e { cause = cause }) old) opened ∙ sym (ap (λ (cause : Cause). ping_behind (record e { cause = cause }) new) opened)
+
+  pub sent_next : (old new : Option ℕ) → while_connected before old ≡ while_connected before new → while_connected behind (sent_behind e old) ≡ while_connected behind (sent_behind e new)
+  sent_next old new same = connected_as behind (sent_behind e old) (sent_behind e new) (λ to. go (leads to))
+    where
+      go : (is_connected before ≡ true) ⊎ (e.cause ≡ c.Opened) → sent_behind e old ≡ sent_behind e new
+      go (inl here) = ap (sent_behind e) (connected_is before old new here same)
+      go (inr opened) = ap (λ (cause : Cause). sent_behind (record e { cause = cause }) old) opened ∙ sym (ap (λ (cause : Cause). sent_behind (record e { cause = cause }) new) opened)

@@ -214,24 +214,24 @@ module _ (commands : List Pending) (e : Deliveries) (tie : IsTied commands e) wh
       other : (at : Qos → Bool) → publishes at command.request ≡ false → ids_at at (command ∷ []) ≡ []
       other at h = rw h refl
 
-  tied_publish : (id task seq : ℕ) (qos : Qos) (topic payload : List ℕ) (next : Deliveries) → list_any (has_id id) commands ≡ false → next ≡ started id qos e
-      → IsTied (commands ++ record { id = id; task = task; seq = seq; request = requests.Publish qos topic payload } ∷ []) next
-  tied_publish id task seq AtMostOnce topic payload next fresh is = tied_other (record { id = id; task = task; seq = seq; request = requests.Publish AtMostOnce topic payload }) next refl refl is
-  tied_publish id task seq AtLeastOnce topic payload next fresh is = tied_at_least_once (record { id = id; task = task; seq = seq; request = requests.Publish AtLeastOnce topic payload }) next refl refl is
-  tied_publish id task seq ExactlyOnce topic payload next fresh is = tied_exactly_once (record { id = id; task = task; seq = seq; request = requests.Publish ExactlyOnce topic payload }) next refl refl fresh is
+  tied_publish : (id task seq : ℕ) (qos : Qos) (topic payload : List ℕ) (names : List (List ℕ)) (next : Deliveries) → list_any (has_id id) commands ≡ false → next ≡ started id qos e
+      → IsTied (commands ++ record { id = id; task = task; seq = seq; request = requests.Publish qos topic payload; sent_filters = names } ∷ []) next
+  tied_publish id task seq AtMostOnce topic payload names next fresh is = tied_other (record { id = id; task = task; seq = seq; request = requests.Publish AtMostOnce topic payload; sent_filters = names }) next refl refl is
+  tied_publish id task seq AtLeastOnce topic payload names next fresh is = tied_at_least_once (record { id = id; task = task; seq = seq; request = requests.Publish AtLeastOnce topic payload; sent_filters = names }) next refl refl is
+  tied_publish id task seq ExactlyOnce topic payload names next fresh is = tied_exactly_once (record { id = id; task = task; seq = seq; request = requests.Publish ExactlyOnce topic payload; sent_filters = names }) next refl refl fresh is
 
-  tied_request : (id task seq : ℕ) (request : Request) (next : Deliveries) → list_any (has_id id) commands ≡ false → next ≡ begun_by id request e
-      → IsTied (commands ++ record { id = id; task = task; seq = seq; request = request } ∷ []) next
-  tied_request id task seq (requests.Publish qos topic payload) next fresh is = tied_publish id task seq qos topic payload next fresh is
-  tied_request id task seq (requests.Subscribe asks) next fresh is = tied_other (record { id = id; task = task; seq = seq; request = requests.Subscribe asks }) next refl refl is
-  tied_request id task seq (requests.Unsubscribe filters) next fresh is = tied_other (record { id = id; task = task; seq = seq; request = requests.Unsubscribe filters }) next refl refl is
-  tied_request id task seq requests.Ping next fresh is = tied_other (record { id = id; task = task; seq = seq; request = requests.Ping }) next refl refl is
-  tied_request id task seq requests.Disconnect next fresh is = tied_other (record { id = id; task = task; seq = seq; request = requests.Disconnect }) next refl refl is
-  tied_request id task seq requests.Terminate next fresh is = tied_other (record { id = id; task = task; seq = seq; request = requests.Terminate }) next refl refl is
-  tied_request id task seq requests.Leave next fresh is = tied_other (record { id = id; task = task; seq = seq; request = requests.Leave }) next refl refl is
+  tied_request : (id task seq : ℕ) (request : Request) (names : List (List ℕ)) (next : Deliveries) → list_any (has_id id) commands ≡ false → next ≡ begun_by id request e
+      → IsTied (commands ++ record { id = id; task = task; seq = seq; request = request; sent_filters = names } ∷ []) next
+  tied_request id task seq (requests.Publish qos topic payload) names next fresh is = tied_publish id task seq qos topic payload names next fresh is
+  tied_request id task seq (requests.Subscribe asks) names next fresh is = tied_other (record { id = id; task = task; seq = seq; request = requests.Subscribe asks; sent_filters = names }) next refl refl is
+  tied_request id task seq (requests.Unsubscribe filters) names next fresh is = tied_other (record { id = id; task = task; seq = seq; request = requests.Unsubscribe filters; sent_filters = names }) next refl refl is
+  tied_request id task seq requests.Ping names next fresh is = tied_other (record { id = id; task = task; seq = seq; request = requests.Ping; sent_filters = names }) next refl refl is
+  tied_request id task seq requests.Disconnect names next fresh is = tied_other (record { id = id; task = task; seq = seq; request = requests.Disconnect; sent_filters = names }) next refl refl is
+  tied_request id task seq requests.Terminate names next fresh is = tied_other (record { id = id; task = task; seq = seq; request = requests.Terminate; sent_filters = names }) next refl refl is
+  tied_request id task seq requests.Leave names next fresh is = tied_other (record { id = id; task = task; seq = seq; request = requests.Leave; sent_filters = names }) next refl refl is
 
   pub tied_opened : (command : Pending) (next : Deliveries) → list_any (has_id command.id) commands ≡ false → next ≡ begun_by command.id command.request e → IsTied (commands ++ command ∷ []) next
-  tied_opened command next fresh is = tied_request command.id command.task command.seq command.request next fresh is
+  tied_opened command next fresh is = tied_request command.id command.task command.seq command.request command.sent_filters next fresh is
 
   same_by : (id : ℕ) (request : Request) → (begun_by id request e).released ≡ e.released
   same_by id (requests.Publish AtMostOnce topic payload) = refl

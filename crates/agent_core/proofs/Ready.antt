@@ -11,7 +11,7 @@ use Rattle.agent_journal.specs.declared.request.Request.{Request}
 use Rattle.agent_journal.specs.declared.request.Request.TheVariants as requests
 use Rattle.agent_journal.specs.declared.setup.Phase.{Phase}
 use Rattle.agent_journal.specs.declared.setup.Phase.TheVariants.{Down, Opening, Up, Spilled, Off}
-use Rattle.agent_journal.specs.Readings.{Pending, opens, opened_by, sent_id, is_leave}
+use Rattle.agent_journal.specs.Readings.{Pending, opens, opened_by, sent_id, is_leave, sent_filters}
 use Rattle.agent_journal.specs.Requests.{is_valid, is_few, is_wanted, is_short}
 use Rattle.topic_filter.specs.Texts.{is_filter}
 use Rattle.mqtt_packet.specs.declared.will.Ask.{Ask}
@@ -74,12 +74,12 @@ fresh_in k id low few is =
     (sym (among_more (map (λ command. command.id) k.pending) (map (λ renewal. renewal.id) k.routing.renewals) id) ∙ free)
 
 -- the command that is opened is the one with the identifier that is sent
-sent_open : (k : Kept) (task seq : ℕ) (request : Request) (id : Option ℕ) (opened : Option Pending) → k.last_drawn ≤ 65535 → length (used_in k) < 65535
-    → IsSentWell k.phase k.sizes (readings_in k) task request id → as_list opened ≡ opened_by task seq request id → CanOpen k.sizes.acks k.pending opened
-sent_open k task seq request None None low few well e = tt
-sent_open k task seq request None (Some command) low few well e = absurd (cc e)
-sent_open k task seq request (Some id) None low few well e = absurd (cc e)
-sent_open k task seq request (Some id) (Some command) low few well e =
+sent_open : (k : Kept) (task seq : ℕ) (request : Request) (names : List (List ℕ)) (id : Option ℕ) (opened : Option Pending) → k.last_drawn ≤ 65535 → length (used_in k) < 65535
+    → IsSentWell k.phase k.sizes (readings_in k) task request id → as_list opened ≡ opened_by task seq request names id → CanOpen k.sizes.acks k.pending opened
+sent_open k task seq request names None None low few well e = tt
+sent_open k task seq request names None (Some command) low few well e = absurd (cc e)
+sent_open k task seq request names (Some id) None low few well e = absurd (cc e)
+sent_open k task seq request names (Some id) (Some command) low few well e =
     let same : command.id ≡ id = ap id_of e in
     (well.1, fresh_in k command.id low few (same ∙ well.2 ∙ used_up k well.0))
   where
@@ -95,7 +95,7 @@ pub can_open : (k : Kept) (at : ℕ) (cause : Cause) (row : Row) (opened : Optio
     → k.last_drawn ≤ 65535 → length (used_in k) < 65535 → CanOpen k.sizes.acks k.pending opened
 can_open k at c.Opened row opened e is low few = no_command k.sizes.acks k.pending opened is
 can_open k at (c.Take task seq request) row opened e is low few =
-    sent_open k task seq request (sent_id row.effects) opened low few (take_sends k.setup k.sizes (readings_in k) task seq request row e) is
+    sent_open k task seq request (sent_filters row.effects) (sent_id row.effects) opened low few (take_sends k.setup k.sizes (readings_in k) task seq request row e) is
 can_open k at (c.Arrived packet) row opened e is low few = no_command k.sizes.acks k.pending opened is
 can_open k at (c.Broke why) row opened e is low few = no_command k.sizes.acks k.pending opened is
 can_open k at c.Tick row opened e is low few = no_command k.sizes.acks k.pending opened is
@@ -142,24 +142,24 @@ valid_asks asks valid = all asks (and_parts (is_few (length asks)) (list_all (λ
         let parts = and_parts (is_wanted ask.filter) (list_all (λ ask. is_wanted ask.filter) asks) h in
         rw ((and_parts (is_short ask.filter) (is_filter ask.filter) parts.0).1) (all asks parts.1)
 
-sent_ask : (k : Kept) (task seq : ℕ) (request : Request) (id : Option ℕ) (opened : Option Pending) → is_valid request ≡ true → IsSentWell k.phase k.sizes (readings_in k) task request id
-    → as_list opened ≡ opened_by task seq request id → CanAskFor k.sizes.routes k.routing task request (as_list opened)
-sent_ask k task seq (requests.Publish qos topic payload) id opened valid well e = tt
-sent_ask k task seq (requests.Subscribe asks) None None valid well e = tt
-sent_ask k task seq (requests.Subscribe asks) None (Some command) valid well e = absurd (cc e)
-sent_ask k task seq (requests.Subscribe asks) (Some id) None valid well e = tt
-sent_ask k task seq (requests.Subscribe asks) (Some id) (Some command) valid well e = (room_up k task asks well.0 well.3, valid_asks asks valid)
-sent_ask k task seq (requests.Unsubscribe filters) id opened valid well e = tt
-sent_ask k task seq requests.Ping id opened valid well e = tt
-sent_ask k task seq requests.Disconnect id opened valid well e = tt
-sent_ask k task seq requests.Terminate id opened valid well e = tt
-sent_ask k task seq requests.Leave id opened valid well e = tt
+sent_ask : (k : Kept) (task seq : ℕ) (request : Request) (names : List (List ℕ)) (id : Option ℕ) (opened : Option Pending) → is_valid request ≡ true → IsSentWell k.phase k.sizes (readings_in k) task request id
+    → as_list opened ≡ opened_by task seq request names id → CanAskFor k.sizes.routes k.routing task request (as_list opened)
+sent_ask k task seq (requests.Publish qos topic payload) names id opened valid well e = tt
+sent_ask k task seq (requests.Subscribe asks) names None None valid well e = tt
+sent_ask k task seq (requests.Subscribe asks) names None (Some command) valid well e = absurd (cc e)
+sent_ask k task seq (requests.Subscribe asks) names (Some id) None valid well e = tt
+sent_ask k task seq (requests.Subscribe asks) names (Some id) (Some command) valid well e = (room_up k task asks well.0 well.3, valid_asks asks valid)
+sent_ask k task seq (requests.Unsubscribe filters) names id opened valid well e = tt
+sent_ask k task seq requests.Ping names id opened valid well e = tt
+sent_ask k task seq requests.Disconnect names id opened valid well e = tt
+sent_ask k task seq requests.Terminate names id opened valid well e = tt
+sent_ask k task seq requests.Leave names id opened valid well e = tt
 
 pub can_ask : (k : Kept) (at : ℕ) (cause : Cause) (row : Row) (opened : Option Pending) → cause_row k.setup k.sizes (readings_in k) at cause ≡ Some row → as_list opened ≡ opens cause row.effects
     → CanAsk k.sizes.routes k.routing cause (as_list opened)
 can_ask k at c.Opened row opened e is = tt
 can_ask k at (c.Take task seq request) row opened e is =
-    sent_ask k task seq request (sent_id row.effects) opened (taken k task seq request row e).1 (take_sends k.setup k.sizes (readings_in k) task seq request row e) is
+    sent_ask k task seq request (sent_filters row.effects) (sent_id row.effects) opened (taken k task seq request row e).1 (take_sends k.setup k.sizes (readings_in k) task seq request row e) is
 can_ask k at (c.Arrived packet) row opened e is = tt
 can_ask k at (c.Broke why) row opened e is = tt
 can_ask k at c.Tick row opened e is = tt

@@ -10,7 +10,7 @@ use Rattle.agent_journal.specs.declared.entry.Cause.{Cause}
 use Rattle.agent_journal.specs.declared.entry.Cause.TheVariants as c
 use Rattle.agent_journal.specs.declared.entry.Entry.{Entry}
 use Rattle.agent_journal.specs.declared.setup.Setup.{Setup}
-use Rattle.agent_journal.specs.Readings.{Pending, pending_of, opens, opened_by, sent_id, stays_open, takes_of, takes_behind, has_left}
+use Rattle.agent_journal.specs.Readings.{Pending, pending_of, opens, opened_by, sent_id, stays_open, takes_of, takes_behind, has_left, sent_filters}
 use Rattle.agent_journal.specs.Requests.{is_valid}
 use Rattle.std.proofs.lemmas.Bool.{and_parts}
 use Rattle.agent_table.specs.Histories.{IsLegalPast, readings, row, effects_of}
@@ -91,21 +91,21 @@ AreTaken past commands = AllByRecursion (λ (command : Pending). WasTaken past c
 open_taken : (e : Entry) (past : List Entry) → IsNext past e.cause → AreTaken (e ∷ past) (opens e.cause e.effects)
 open_taken e past next = go e.cause next
   where
-    one : (task seq : ℕ) (request : Request) (id : Option ℕ) (now : ℕ) → seq < now → AllByRecursion (λ (command : Pending). command.task ≡ task → command.seq < now) (opened_by task seq request id)
-    one task seq request None now h = tt
-    one task seq request (Some id) now h = (λ e. h, tt)
+    one : (task seq : ℕ) (request : Request) (names : List (List ℕ)) (id : Option ℕ) (now : ℕ) → seq < now → AllByRecursion (λ (command : Pending). command.task ≡ task → command.seq < now) (opened_by task seq request names id)
+    one task seq request names None now h = tt
+    one task seq request names (Some id) now h = (λ e. h, tt)
 
-    opened : (task seq : ℕ) (request : Request) (id : Option ℕ) → seq < takes_behind task (c.Take task seq request) (takes_of task past)
-        → AllByRecursion (λ (command : Pending). command.seq < takes_behind command.task (c.Take task seq request) (takes_of command.task past)) (opened_by task seq request id)
-    opened task seq request None h = tt
-    opened task seq request (Some id) h = (h, tt)
+    opened : (task seq : ℕ) (request : Request) (names : List (List ℕ)) (id : Option ℕ) → seq < takes_behind task (c.Take task seq request) (takes_of task past)
+        → AllByRecursion (λ (command : Pending). command.seq < takes_behind command.task (c.Take task seq request) (takes_of command.task past)) (opened_by task seq request names id)
+    opened task seq request names None h = tt
+    opened task seq request names (Some id) h = (h, tt)
 
     now : (task seq : ℕ) (request : Request) → seq ≡ takes_of task past → seq < takes_behind task (c.Take task seq request) (takes_of task past)
     now task seq request is = rw (eq-eqb task task refl) (omega (arith, is))
 
     go : (cause : Cause) → IsNext past cause → AllByRecursion (λ (command : Pending). command.seq < takes_behind command.task cause (takes_of command.task past)) (opens cause e.effects)
     go c.Opened next = tt
-    go (c.Take task seq request) next = opened task seq request (sent_id e.effects) (now task seq request next.0)
+    go (c.Take task seq request) next = opened task seq request (sent_filters e.effects) (sent_id e.effects) (now task seq request next.0)
     go (c.Arrived packet) next = tt
     go (c.Broke why) next = tt
     go c.Tick next = tt
@@ -166,13 +166,13 @@ numbered_filter p (command ∷ commands) apart = go (p command) (numbered_filter
 pub numbered_behind : (past : List Entry) (commands : List Pending) (cause : Cause) (effects : List Effect) → IsNext past cause → AreTaken past commands → AreNumbered commands → AreNumbered (commands ++ opens cause effects)
 numbered_behind past [] cause effects next taken apart = alone cause
   where
-    one : (task seq : ℕ) (request : Request) (id : Option ℕ) → AreNumbered (opened_by task seq request id)
-    one task seq request None = tt
-    one task seq request (Some id) = (tt, tt)
+    one : (task seq : ℕ) (request : Request) (names : List (List ℕ)) (id : Option ℕ) → AreNumbered (opened_by task seq request names id)
+    one task seq request names None = tt
+    one task seq request names (Some id) = (tt, tt)
 
     alone : (cause : Cause) → AreNumbered (opens cause effects)
     alone c.Opened = tt
-    alone (c.Take task seq request) = one task seq request (sent_id effects)
+    alone (c.Take task seq request) = one task seq request (sent_filters effects) (sent_id effects)
     alone (c.Arrived packet) = tt
     alone (c.Broke why) = tt
     alone c.Tick = tt
@@ -181,13 +181,13 @@ numbered_behind past [] cause effects next taken apart = alone cause
 numbered_behind past (command ∷ commands) cause effects next taken apart =
     (all_append (λ (other : Pending). is_command command.task command.seq other ≡ false) commands (opens cause effects) apart.0 (fresh cause next), numbered_behind past commands cause effects next taken.1 apart.1)
   where
-    one : (task seq : ℕ) (request : Request) (id : Option ℕ) → (command.task == task && command.seq == seq) ≡ false → AllByRecursion (λ (other : Pending). is_command command.task command.seq other ≡ false) (opened_by task seq request id)
-    one task seq request None h = tt
-    one task seq request (Some id) h = (ap (λ b. b && seq == command.seq) (turned task command.task) ∙ ap (λ b. command.task == task && b) (turned seq command.seq) ∙ h, tt)
+    one : (task seq : ℕ) (request : Request) (names : List (List ℕ)) (id : Option ℕ) → (command.task == task && command.seq == seq) ≡ false → AllByRecursion (λ (other : Pending). is_command command.task command.seq other ≡ false) (opened_by task seq request names id)
+    one task seq request names None h = tt
+    one task seq request names (Some id) h = (ap (λ b. b && seq == command.seq) (turned task command.task) ∙ ap (λ b. command.task == task && b) (turned seq command.seq) ∙ h, tt)
 
     fresh : (cause : Cause) → IsNext past cause → AllByRecursion (λ (other : Pending). is_command command.task command.seq other ≡ false) (opens cause effects)
     fresh c.Opened n = tt
-    fresh (c.Take task seq request) n = one task seq request (sent_id effects) (new_number past task seq command.task command.seq n.0 taken.0)
+    fresh (c.Take task seq request) n = one task seq request (sent_filters effects) (sent_id effects) (new_number past task seq command.task command.seq n.0 taken.0)
     fresh (c.Arrived packet) n = tt
     fresh (c.Broke why) n = tt
     fresh c.Tick n = tt
@@ -245,11 +245,11 @@ before_new e past earlier = go e.cause
         → (rest : Qos) → or_earlier (asked_by all topics (c.Take task seq request)) rest ≡ qos
     decided task seq request topics all qos granted asks rest = rw (granted, asks) refl
 
-    one : (task seq : ℕ) (request : Request) (id : Option ℕ)
+    one : (task seq : ℕ) (request : Request) (names : List (List ℕ)) (id : Option ℕ)
         → AllByRecursion (λ (later : Pending). (topics : List ℕ) (all : List Grant) (qos : Qos) → grants all later.task later.seq topics ≡ true → last_asked (asks_in later.request) topics ≡ Some qos
-        → or_earlier (asked_by (grant earlier topics ∷ all) topics (c.Take task seq request)) (asked_in (grant earlier topics ∷ all) topics past) ≡ or_earlier (asked_by all topics (c.Take task seq request)) (asked_in all topics past)) (opened_by task seq request id)
-    one task seq request None = tt
-    one task seq request (Some id) = (
+        → or_earlier (asked_by (grant earlier topics ∷ all) topics (c.Take task seq request)) (asked_in (grant earlier topics ∷ all) topics past) ≡ or_earlier (asked_by all topics (c.Take task seq request)) (asked_in all topics past)) (opened_by task seq request names id)
+    one task seq request names None = tt
+    one task seq request names (Some id) = (
       λ topics all qos granted asks.
           decided task seq request topics (grant earlier topics ∷ all) qos (ap (λ b. ((earlier.task == task && earlier.seq == seq) && is_one_of (topics ∷ []) topics) || b) granted ∙ or_true ((earlier.task == task && earlier.seq == seq) && is_one_of (topics ∷ []) topics)) asks (asked_in (grant earlier topics ∷ all) topics past)
           ∙ sym (decided task seq request topics all qos granted asks (asked_in all topics past)),
@@ -260,7 +260,7 @@ before_new e past earlier = go e.cause
         → AllByRecursion (λ (later : Pending). (topics : List ℕ) (all : List Grant) (qos : Qos) → grants all later.task later.seq topics ≡ true → last_asked (asks_in later.request) topics ≡ Some qos
         → or_earlier (asked_by (grant earlier topics ∷ all) topics cause) (asked_in (grant earlier topics ∷ all) topics past) ≡ or_earlier (asked_by all topics cause) (asked_in all topics past)) (opens cause e.effects)
     go c.Opened = tt
-    go (c.Take task seq request) = one task seq request (sent_id e.effects)
+    go (c.Take task seq request) = one task seq request (sent_filters e.effects) (sent_id e.effects)
     go (c.Arrived packet) = tt
     go (c.Broke why) = tt
     go c.Tick = tt
@@ -270,13 +270,13 @@ before_new e past earlier = go e.cause
 ordered_behind : (e : Entry) (past : List Entry) (commands : List Pending) → IsNext past e.cause → AreTaken past commands → AreOrdered past commands → AreOrdered (e ∷ past) (commands ++ opens e.cause e.effects)
 ordered_behind e past [] next taken order = go e.cause
   where
-    one : (task seq : ℕ) (request : Request) (id : Option ℕ) → AreOrdered (e ∷ past) (opened_by task seq request id)
-    one task seq request None = tt
-    one task seq request (Some id) = (tt, tt)
+    one : (task seq : ℕ) (request : Request) (names : List (List ℕ)) (id : Option ℕ) → AreOrdered (e ∷ past) (opened_by task seq request names id)
+    one task seq request names None = tt
+    one task seq request names (Some id) = (tt, tt)
 
     go : (cause : Cause) → AreOrdered (e ∷ past) (opens cause e.effects)
     go c.Opened = tt
-    go (c.Take task seq request) = one task seq request (sent_id e.effects)
+    go (c.Take task seq request) = one task seq request (sent_filters e.effects) (sent_id e.effects)
     go (c.Arrived packet) = tt
     go (c.Broke why) = tt
     go c.Tick = tt

@@ -15,7 +15,7 @@ use Rattle.agent_journal.specs.declared.entry.Cause.{Cause}
 use Rattle.agent_journal.specs.declared.entry.Cause.TheVariants as c
 use Rattle.agent_journal.specs.declared.entry.Entry.{Entry}
 use Rattle.agent_journal.specs.declared.setup.Setup.{Setup}
-use Rattle.agent_journal.specs.Readings.{Pending, pending_of, opens, opened_by, sent_id}
+use Rattle.agent_journal.specs.Readings.{Pending, pending_of, opens, opened_by, sent_id, sent_filters}
 use Rattle.agent_table.specs.Arrivals.{is_subscribe}
 use Rattle.agent_table.specs.Filters.{is_one_of}
 use Rattle.agent_table.specs.Histories.{IsLegalPast, row, effects_of}
@@ -124,12 +124,12 @@ granted_itself all command topics = grants_append all (grant command topics ∷ 
     or_true false = refl
 
 new_asked : (past : List Entry) (at task seq id : ℕ) (asks : List Ask) (effects : List Effect)
-    → IsAskedFor (entry at (c.Take task seq (requests.Subscribe asks)) effects ∷ past) (record { task = task; id = id; asks = asks; left = false }) (record { id = id; task = task; seq = seq; request = requests.Subscribe asks })
+    → IsAskedFor (entry at (c.Take task seq (requests.Subscribe asks)) effects ∷ past) (record { task = task; id = id; asks = asks; left = false }) (record { id = id; task = task; seq = seq; request = requests.Subscribe asks; sent_filters = sent_filters effects })
 new_asked past at task seq id asks effects = record { id = refl; asks = λ topics one. its topics (last_some asks topics one) }
   where
     its : (topics : List ℕ) → ((qos : Qos) × (last_asked asks topics ≡ Some qos))
-        → last_asked asks topics ≡ Some (qos_if (entry at (c.Take task seq (requests.Subscribe asks)) effects ∷ past) (record { id = id; task = task; seq = seq; request = requests.Subscribe asks }) topics)
-    its topics (qos, last) = last ∙ ap Some (sym (rw (granted_itself (grants_of past ++ grants_by effects (pending_of past)) (record { id = id; task = task; seq = seq; request = requests.Subscribe asks }) topics, last) refl))
+        → last_asked asks topics ≡ Some (qos_if (entry at (c.Take task seq (requests.Subscribe asks)) effects ∷ past) (record { id = id; task = task; seq = seq; request = requests.Subscribe asks; sent_filters = sent_filters effects }) topics)
+    its topics (qos, last) = last ∙ ap Some (sym (rw (granted_itself (grants_of past ++ grants_by effects (pending_of past)) (record { id = id; task = task; seq = seq; request = requests.Subscribe asks; sent_filters = sent_filters effects }) topics, last) refl))
 
 left_for : (now : List Entry) (task : ℕ) (asked : List Asked) (commands : List Pending) → Matched (IsAskedFor now) asked commands → Matched (IsAskedFor now) (map (leaves task) asked) commands
 left_for now task [] [] m = tt
@@ -162,7 +162,7 @@ qualified_take s l past at task seq request effects released k legal e differ qu
     dropped false now filters all = all
 
     granted : (x : Request) (now : List Entry) (id : Option ℕ) → AllByRecursion (λ (g : Granted). g.qos ≡ qos_of now g.topics) k.granted
-        → AllByRecursion (λ (g : Granted). g.qos ≡ qos_of now g.topics) (taken_by task seq x effects (after.asked_by task x (opened_by task seq x id) k)).granted
+        → AllByRecursion (λ (g : Granted). g.qos ≡ qos_of now g.topics) (taken_by task seq x effects (after.asked_by task x (opened_by task seq x (sent_filters effects) id) k)).granted
     granted (requests.Publish qos topic payload) now id all = all
     granted (requests.Subscribe asks) now None all = all
     granted (requests.Subscribe asks) now (Some id) all = all
@@ -176,22 +176,22 @@ qualified_take s l past at task seq request effects released k legal e differ qu
     same true filters = refl
     same false filters = refl
 
-    other : (x : Request) (now : List Entry) (id : Option ℕ) (xs : List Asked) → is_subscribe x ≡ false → Matched (IsAskedFor now) xs (subscribes_in (pending_of past)) → Matched (IsAskedFor now) xs (subscribes_in (pending_of past ++ opened_by task seq x id))
-    other x now id xs nay m = subst (λ (cs : List Pending). Matched (IsAskedFor now) xs cs) (sym (opens_none (pending_of past) task seq x id nay)) m
+    other : (x : Request) (now : List Entry) (id : Option ℕ) (xs : List Asked) → is_subscribe x ≡ false → Matched (IsAskedFor now) xs (subscribes_in (pending_of past)) → Matched (IsAskedFor now) xs (subscribes_in (pending_of past ++ opened_by task seq x (sent_filters effects) id))
+    other x now id xs nay m = subst (λ (cs : List Pending). Matched (IsAskedFor now) xs cs) (sym (opens_none (pending_of past) task seq x (sent_filters effects) id nay)) m
 
     asked : (x : Request) (id : Option ℕ) → Matched (IsAskedFor (entry at (c.Take task seq x) effects ∷ past)) k.asked (subscribes_in (pending_of past))
-        → Matched (IsAskedFor (entry at (c.Take task seq x) effects ∷ past)) (taken_by task seq x effects (after.asked_by task x (opened_by task seq x id) k)).asked (subscribes_in (pending_of past ++ opened_by task seq x id))
+        → Matched (IsAskedFor (entry at (c.Take task seq x) effects ∷ past)) (taken_by task seq x effects (after.asked_by task x (opened_by task seq x (sent_filters effects) id) k)).asked (subscribes_in (pending_of past ++ opened_by task seq x (sent_filters effects) id))
     asked (requests.Publish qos topic payload) id m = other (requests.Publish qos topic payload) (entry at (c.Take task seq (requests.Publish qos topic payload)) effects ∷ past) id k.asked refl m
     asked (requests.Subscribe asks) None m = subst (λ (cs : List Pending). Matched (IsAskedFor (entry at (c.Take task seq (requests.Subscribe asks)) effects ∷ past)) k.asked (subscribes_in cs)) (sym (append-nil (pending_of past))) m
     asked (requests.Subscribe asks) (Some id) m =
         subst (λ (cs : List Pending). Matched (IsAskedFor (entry at (c.Take task seq (requests.Subscribe asks)) effects ∷ past)) (k.asked ++ record { task = task; id = id; asks = asks; left = false } ∷ []) cs)
-        (sym (filter_append (λ (command : Pending). is_subscribe command.request) (pending_of past) (record { id = id; task = task; seq = seq; request = requests.Subscribe asks } ∷ [])))
-        (matched_behind (IsAskedFor (entry at (c.Take task seq (requests.Subscribe asks)) effects ∷ past)) k.asked (subscribes_in (pending_of past)) (record { task = task; id = id; asks = asks; left = false }) (record { id = id; task = task; seq = seq; request = requests.Subscribe asks }) m
+        (sym (filter_append (λ (command : Pending). is_subscribe command.request) (pending_of past) (record { id = id; task = task; seq = seq; request = requests.Subscribe asks; sent_filters = sent_filters effects } ∷ [])))
+        (matched_behind (IsAskedFor (entry at (c.Take task seq (requests.Subscribe asks)) effects ∷ past)) k.asked (subscribes_in (pending_of past)) (record { task = task; id = id; asks = asks; left = false }) (record { id = id; task = task; seq = seq; request = requests.Subscribe asks; sent_filters = sent_filters effects }) m
         (new_asked past at task seq id asks effects))
     asked (requests.Unsubscribe filters) id m =
-        subst (λ (xs : List Asked). Matched (IsAskedFor (entry at (c.Take task seq (requests.Unsubscribe filters)) effects ∷ past)) xs (subscribes_in (pending_of past ++ opened_by task seq (requests.Unsubscribe filters) id))) (sym (same (list_any is_done (outcomes_in task seq effects)) filters))
+        subst (λ (xs : List Asked). Matched (IsAskedFor (entry at (c.Take task seq (requests.Unsubscribe filters)) effects ∷ past)) xs (subscribes_in (pending_of past ++ opened_by task seq (requests.Unsubscribe filters) (sent_filters effects) id))) (sym (same (list_any is_done (outcomes_in task seq effects)) filters))
         (other (requests.Unsubscribe filters) (entry at (c.Take task seq (requests.Unsubscribe filters)) effects ∷ past) id k.asked refl m)
     asked requests.Ping id m = other requests.Ping (entry at (c.Take task seq requests.Ping) effects ∷ past) id k.asked refl m
     asked requests.Disconnect id m = other requests.Disconnect (entry at (c.Take task seq requests.Disconnect) effects ∷ past) id k.asked refl m
     asked requests.Terminate id m = other requests.Terminate (entry at (c.Take task seq requests.Terminate) effects ∷ past) id k.asked refl m
-    asked requests.Leave id m = left_for (entry at (c.Take task seq requests.Leave) effects ∷ past) task k.asked (subscribes_in (pending_of past ++ opened_by task seq requests.Leave id)) (other requests.Leave (entry at (c.Take task seq requests.Leave) effects ∷ past) id k.asked refl m)
+    asked requests.Leave id m = left_for (entry at (c.Take task seq requests.Leave) effects ∷ past) task k.asked (subscribes_in (pending_of past ++ opened_by task seq requests.Leave (sent_filters effects) id)) (other requests.Leave (entry at (c.Take task seq requests.Leave) effects ∷ past) id k.asked refl m)

@@ -1,9 +1,11 @@
 -- What renewals ask for is what the agent keeps of it.
 use Rattle.std.proofs.Common.{◌≡◌, ℕ, Bool, true, false, not, List, [], ◌∷◌, map, refl, ap, sym, ◌∙◌, subst}
 use Rattle.std.specs.Prelude.{◌&&◌, ◌||◌, filter, if◌then◌else◌}
-use Rattle.std.specs.List.{AllByRecursion}
+use Rattle.std.specs.List.{AllByRecursion, list_any}
 use Rattle.std.specs.Str.{bytes_eq}
 use Rattle.std.proofs.lemmas.Slice.Eq.{bytes_eq-Decides}
+use Rattle.mqtt_packet.specs.declared.qos.Qos.{Qos}
+use Rattle.mqtt_packet.specs.declared.qos.Qos.TheVariants.{AtMostOnce, AtLeastOnce, ExactlyOnce}
 use Rattle.agent_journal.specs.declared.request.Request.{Request}
 use Rattle.agent_journal.specs.declared.request.Request.TheVariants as requests
 use Rattle.agent_journal.specs.declared.entry.Entry.{Entry}
@@ -18,10 +20,13 @@ use Rattle.agent_table.specs.Routes.{topics_of, routes_of, qos_of, asks_for, ren
 use Rattle.agent_table.specs.Sizes.{Sizes}
 use Rattle.subscriptions.specs.Routing.{Granted, Asked, Routing, route_of, routes, renewable, ask_in, qos_in}
 use Rattle.agent_core.specs.Routed.{Matched, Routed, IsQualified, IsAsked, subscribes_in, is_sure}
+use Rattle.agent_core.specs.Reordered.{IsReordered}
+use Rattle.agent_core.proofs.Reorders.{any_reordered, filter_reordered, map_reordered}
 use Rattle.agent_core.proofs.RoutedLists.{all_map, all_filter, filter_all, filter_none, filter_as, filter_map}
 use Rattle.agent_core.proofs.RoutedReads.{routed_routes}
 use Rattle.agent_core.proofs.RoutedRenewed.{members}
 use Rattle.agent_core.proofs.RoutedRest.{at_rest, is_closed}
+use Rattle.agent_core.proofs.SortedSame.{sorted_same}
 
 -- ---- No subscribe is open
 
@@ -108,3 +113,75 @@ routed_unsure s l past k legal opening routed qualified =
     turn true true = refl
     turn true false = refl
     turn false b = refl
+
+-- ---- In another order
+
+-- whether two qualities of service are the same
+abbrev is_qos : Qos → Qos → Bool
+is_qos AtMostOnce AtMostOnce = true
+is_qos AtMostOnce AtLeastOnce = false
+is_qos AtMostOnce ExactlyOnce = false
+is_qos AtLeastOnce AtMostOnce = false
+is_qos AtLeastOnce AtLeastOnce = true
+is_qos AtLeastOnce ExactlyOnce = false
+is_qos ExactlyOnce AtMostOnce = false
+is_qos ExactlyOnce AtLeastOnce = false
+is_qos ExactlyOnce ExactlyOnce = true
+
+same_qos : (one two : Qos) → is_qos one two ≡ true → one ≡ two
+same_qos AtMostOnce AtMostOnce e = refl
+same_qos AtMostOnce AtLeastOnce e = absurd (cc e)
+same_qos AtMostOnce ExactlyOnce e = absurd (cc e)
+same_qos AtLeastOnce AtMostOnce e = absurd (cc e)
+same_qos AtLeastOnce AtLeastOnce e = refl
+same_qos AtLeastOnce ExactlyOnce e = absurd (cc e)
+same_qos ExactlyOnce AtMostOnce e = absurd (cc e)
+same_qos ExactlyOnce AtLeastOnce e = absurd (cc e)
+same_qos ExactlyOnce ExactlyOnce e = refl
+
+itself : (qos : Qos) → is_qos qos qos ≡ true
+itself AtMostOnce = refl
+itself AtLeastOnce = refl
+itself ExactlyOnce = refl
+
+module _ (past : List Entry) where
+  -- what is asked for otherwise
+  abbrev differs : Granted → Bool
+  differs g = not (is_qos g.qos (qos_of past g.topics))
+
+  none_differs : (gs : List Granted) → AllByRecursion (λ (g : Granted). g.qos ≡ qos_of past g.topics) gs → list_any differs gs ≡ false
+  none_differs [] all = refl
+  none_differs (g ∷ gs) all = rw (ap (λ qos. is_qos g.qos qos) (sym all.0) ∙ itself g.qos) (none_differs gs all.1)
+
+  all_same : (gs : List Granted) → list_any differs gs ≡ false → AllByRecursion (λ (g : Granted). g.qos ≡ qos_of past g.topics) gs
+  all_same [] none = tt
+  all_same (g ∷ gs) none = go (is_qos g.qos (qos_of past g.topics)) refl none (λ h. all_same gs h)
+    where
+      go : (b : Bool) → is_qos g.qos (qos_of past g.topics) ≡ b → (not b || list_any differs gs) ≡ false → (list_any differs gs ≡ false → AllByRecursion (λ (h : Granted). h.qos ≡ qos_of past h.topics) gs)
+          → AllByRecursion (λ (h : Granted). h.qos ≡ qos_of past h.topics) (g ∷ gs)
+      go true is none rest = (same_qos g.qos (qos_of past g.topics) is, rest none)
+      go false is none rest = absurd (cc none)
+
+  over_topics : (P : List ℕ → Type 0) (gs : List Granted) → AllByRecursion P (map (λ (g : Granted). g.topics) gs) → AllByRecursion (λ (g : Granted). P g.topics) gs
+  over_topics P [] all = tt
+  over_topics P (g ∷ gs) all = (all.0, over_topics P gs all.1)
+
+  of_topics : (P : List ℕ → Type 0) (gs : List Granted) → AllByRecursion (λ (g : Granted). P g.topics) gs → AllByRecursion P (map (λ (g : Granted). g.topics) gs)
+  of_topics P [] all = tt
+  of_topics P (g ∷ gs) all = (all.0, of_topics P gs all.1)
+
+  abbrev wanted : Bool → List Granted → List (List ℕ)
+  wanted all gs = map (λ (g : Granted). g.topics) (filter (λ (g : Granted). all || not g.sure) gs)
+
+  asks_as : (all : Bool) (gs : List Granted) → AllByRecursion (λ (g : Granted). g.qos ≡ qos_of past g.topics) gs → map (ask_in gs) (sorted (wanted all gs)) ≡ map (λ (t : List ℕ). record { filter = t; qos = qos_of past t }) (sorted (wanted all gs))
+  asks_as all gs qualified =
+      let Within : List ℕ → Type 0 = λ (t : List ℕ). is_one_of (map (λ (g : Granted). g.topics) gs) t ≡ true in
+      same_asks past gs (sorted (wanted all gs)) qualified
+      (all_sorted Within (wanted all gs) (of_topics Within (filter (λ (g : Granted). all || not g.sure) gs) (all_filter (λ (g : Granted). Within g.topics) (λ (g : Granted). all || not g.sure) gs (over_topics Within gs (members (map (λ (g : Granted). g.topics) gs))))))
+
+  pub renewable_same : (all : Bool) (k : Routing) (gs : List Granted) → IsReordered gs k.granted → AllByRecursion (λ (g : Granted). g.qos ≡ qos_of past g.topics) gs → renewable all k ≡ renewable all (record k { granted = gs })
+  renewable_same all k gs same qualified =
+      let kept = all_same k.granted (sym (any_reordered differs gs k.granted same) ∙ none_differs gs qualified) in
+      let order : sorted (wanted all k.granted) ≡ sorted (wanted all gs) =
+      sym (sorted_same (wanted all gs) (wanted all k.granted) (map_reordered (λ (g : Granted). g.topics) (filter (λ (g : Granted). all || not g.sure) gs) (filter (λ (g : Granted). all || not g.sure) k.granted) (filter_reordered (λ (g : Granted). all || not g.sure) gs k.granted same))) in
+      asks_as all k.granted kept ∙ ap (map (λ (t : List ℕ). record { filter = t; qos = qos_of past t })) order ∙ sym (asks_as all gs qualified)

@@ -18,7 +18,7 @@ use Rattle.agent_journal.specs.declared.entry.Entry.{Entry}
 use Rattle.agent_journal.specs.declared.setup.Setup.{Setup}
 use Rattle.agent_journal.specs.declared.setup.Phase.{Phase}
 use Rattle.agent_journal.specs.declared.setup.Phase.TheVariants.{Down, Opening, Up, Spilled, Off}
-use Rattle.agent_journal.specs.Readings.{Pending, pending_of, opens, opened_by, sent_id, takes_of}
+use Rattle.agent_journal.specs.Readings.{Pending, pending_of, opens, opened_by, sent_id, takes_of, sent_filters}
 use Rattle.agent_table.specs.Arrivals.{is_unsubscribe}
 use Rattle.agent_table.specs.Effects.{fresh_id}
 use Rattle.agent_table.specs.Histories.{IsLegalPast, readings, row, effects_of}
@@ -250,9 +250,9 @@ take_others s l past at task seq request more effects legal e others =
     all_map (Earns (readings s l past) (c.Take task seq request)) (QuietBy (pending_of past ++ more)) effects
     (λ effect earned. take_effect (readings s l past) past task seq request more effect refl next.0 taken others earned) (outcomes_are_earned s l past at (c.Take task seq request) effects e)
 
-opened_as : (task seq : ℕ) (request : Request) (id : Option ℕ) → is_unsubscribe request ≡ false → AllByRecursion (λ (other : Pending). is_unsubscribe other.request ≡ false) (opened_by task seq request id)
-opened_as task seq request None nay = tt
-opened_as task seq request (Some id) nay = (nay, tt)
+opened_as : (task seq : ℕ) (request : Request) (names : List (List ℕ)) (id : Option ℕ) → is_unsubscribe request ≡ false → AllByRecursion (λ (other : Pending). is_unsubscribe other.request ≡ false) (opened_by task seq request names id)
+opened_as task seq request names None nay = tt
+opened_as task seq request names (Some id) nay = (nay, tt)
 
 append_none : (commands : List Pending) → commands ++ [] ≡ commands
 append_none [] = refl
@@ -260,14 +260,14 @@ append_none (command ∷ commands) = ap (λ cs. command ∷ cs) (append_none com
 
 pub take_quiet : (s : Setup) (l : Sizes) (past : List Entry) (at task seq : ℕ) (request : Request) (effects : List Effect) → IsLegalPast s l past → effects_of (row s l past at (c.Take task seq request)) ≡ Some effects
     → AreQuiet (pending_of past ++ opens (c.Take task seq request) effects) effects
-take_quiet s l past at task seq (requests.Publish qos topic payload) effects legal e = take_others s l past at task seq (requests.Publish qos topic payload) (opens (c.Take task seq (requests.Publish qos topic payload)) effects) effects legal e (opened_as task seq (requests.Publish qos topic payload) (sent_id effects) refl)
-take_quiet s l past at task seq (requests.Subscribe asks) effects legal e = take_others s l past at task seq (requests.Subscribe asks) (opens (c.Take task seq (requests.Subscribe asks)) effects) effects legal e (opened_as task seq (requests.Subscribe asks) (sent_id effects) refl)
+take_quiet s l past at task seq (requests.Publish qos topic payload) effects legal e = take_others s l past at task seq (requests.Publish qos topic payload) (opens (c.Take task seq (requests.Publish qos topic payload)) effects) effects legal e (opened_as task seq (requests.Publish qos topic payload) (sent_filters effects) (sent_id effects) refl)
+take_quiet s l past at task seq (requests.Subscribe asks) effects legal e = take_others s l past at task seq (requests.Subscribe asks) (opens (c.Take task seq (requests.Subscribe asks)) effects) effects legal e (opened_as task seq (requests.Subscribe asks) (sent_filters effects) (sent_id effects) refl)
 take_quiet s l past at task seq (requests.Unsubscribe filters) effects legal e = go (of_effects SentOrNot (row s l past at (c.Take task seq (requests.Unsubscribe filters))) effects e (unsubscribe_sent s l (readings s l past) at task seq filters))
   where
     go : SentOrNot effects → AreQuiet (pending_of past ++ opens (c.Take task seq (requests.Unsubscribe filters)) effects) effects
-    go (inl none) = subst (λ (id : Option ℕ). AreQuiet (pending_of past ++ opened_by task seq (requests.Unsubscribe filters) id) effects) (sym none) (take_others s l past at task seq (requests.Unsubscribe filters) [] effects legal e tt)
+    go (inl none) = subst (λ (id : Option ℕ). AreQuiet (pending_of past ++ opened_by task seq (requests.Unsubscribe filters) (sent_filters effects) id) effects) (sym none) (take_others s l past at task seq (requests.Unsubscribe filters) [] effects legal e tt)
     go (inr (packet, is)) = subst (λ (es : List Effect). AreQuiet (pending_of past ++ opens (c.Take task seq (requests.Unsubscribe filters)) effects) es) (sym is) (tt, tt)
-take_quiet s l past at task seq requests.Ping effects legal e = take_others s l past at task seq requests.Ping (opens (c.Take task seq requests.Ping) effects) effects legal e (opened_as task seq requests.Ping (sent_id effects) refl)
-take_quiet s l past at task seq requests.Disconnect effects legal e = take_others s l past at task seq requests.Disconnect (opens (c.Take task seq requests.Disconnect) effects) effects legal e (opened_as task seq requests.Disconnect (sent_id effects) refl)
-take_quiet s l past at task seq requests.Terminate effects legal e = take_others s l past at task seq requests.Terminate (opens (c.Take task seq requests.Terminate) effects) effects legal e (opened_as task seq requests.Terminate (sent_id effects) refl)
-take_quiet s l past at task seq requests.Leave effects legal e = take_others s l past at task seq requests.Leave (opens (c.Take task seq requests.Leave) effects) effects legal e (opened_as task seq requests.Leave (sent_id effects) refl)
+take_quiet s l past at task seq requests.Ping effects legal e = take_others s l past at task seq requests.Ping (opens (c.Take task seq requests.Ping) effects) effects legal e (opened_as task seq requests.Ping (sent_filters effects) (sent_id effects) refl)
+take_quiet s l past at task seq requests.Disconnect effects legal e = take_others s l past at task seq requests.Disconnect (opens (c.Take task seq requests.Disconnect) effects) effects legal e (opened_as task seq requests.Disconnect (sent_filters effects) (sent_id effects) refl)
+take_quiet s l past at task seq requests.Terminate effects legal e = take_others s l past at task seq requests.Terminate (opens (c.Take task seq requests.Terminate) effects) effects legal e (opened_as task seq requests.Terminate (sent_filters effects) (sent_id effects) refl)
+take_quiet s l past at task seq requests.Leave effects legal e = take_others s l past at task seq requests.Leave (opens (c.Take task seq requests.Leave) effects) effects legal e (opened_as task seq requests.Leave (sent_filters effects) (sent_id effects) refl)

@@ -12,7 +12,7 @@ use Rattle.agent_journal.specs.declared.effect.Effect.TheVariants as f
 use Rattle.agent_journal.specs.declared.entry.Cause.TheVariants as c
 use Rattle.agent_journal.specs.declared.entry.Entry.{Entry}
 use Rattle.agent_journal.specs.declared.setup.Setup.{Setup}
-use Rattle.agent_journal.specs.Readings.{Pending, pending_of, opens, opened_by, sent_id, has_left, is_leave}
+use Rattle.agent_journal.specs.Readings.{Pending, pending_of, opens, opened_by, sent_id, has_left, is_leave, sent_filters}
 use Rattle.agent_table.specs.Arrivals.{is_subscribe}
 use Rattle.agent_table.specs.Filters.{is_one_of}
 use Rattle.agent_table.specs.Histories.{IsLegalPast, row, effects_of}
@@ -71,10 +71,10 @@ here_as past at task seq request effects routes nay =
     filter_as (is_here past) (is_here (entry at (c.Take task seq request) effects ∷ past)) routes
     (all_of (λ (r : Route). is_here past r ≡ is_here (entry at (c.Take task seq request) effects ∷ past) r) routes (λ r. ap not (sym (stays_here past at task seq request effects r.task nay))))
 
-pub opens_none : (commands : List Pending) (task seq : ℕ) (request : Request) (id : Option ℕ) → is_subscribe request ≡ false → subscribes_in (commands ++ opened_by task seq request id) ≡ subscribes_in commands
-opens_none commands task seq request None nay = ap subscribes_in (append-nil commands)
-opens_none commands task seq request (Some id) nay =
-    filter_append (λ (command : Pending). is_subscribe command.request) commands (record { id = id; task = task; seq = seq; request = request } ∷ []) ∙ (rw nay (append-nil (subscribes_in commands)))
+pub opens_none : (commands : List Pending) (task seq : ℕ) (request : Request) (names : List (List ℕ)) (id : Option ℕ) → is_subscribe request ≡ false → subscribes_in (commands ++ opened_by task seq request names id) ≡ subscribes_in commands
+opens_none commands task seq request names None nay = ap subscribes_in (append-nil commands)
+opens_none commands task seq request names (Some id) nay =
+    filter_append (λ (command : Pending). is_subscribe command.request) commands (record { id = id; task = task; seq = seq; request = request; sent_filters = names } ∷ []) ∙ (rw nay (append-nil (subscribes_in commands)))
 
 still_all : (now past : List Entry) (asks : List Asked) (commands : List Pending) → ((t : ℕ) → has_left t now ≡ has_left t past) → Matched (IsAsked past) asks commands → Matched (IsAsked now) asks commands
 still_all now past asks commands same m = matched_map (IsAsked past) (IsAsked now) asks commands (λ a command is. still_asked now past a command (same command.task) is) m
@@ -88,7 +88,7 @@ take_other s l past at task seq request effects released k legal e differ stays 
     take_by s l past at task seq request effects released k legal e differ
     (routed.granted ∙ here_as past at task seq request effects (granted_of past) stays ∙ ap (filter (is_here now)) (sym (ap (λ d. without d (granted_of past)) drops ∙ none_without (granted_of past))))
     routed.sure
-    (subst (λ (cs : List Pending). Matched (IsAsked now) k.asked cs) (sym (opens_none (pending_of past) task seq request (sent_id effects) asks))
+    (subst (λ (cs : List Pending). Matched (IsAsked now) k.asked cs) (sym (opens_none (pending_of past) task seq request (sent_filters effects) (sent_id effects) asks))
     (still_all now past k.asked (subscribes_in (pending_of past)) (λ t. stays_here past at task seq request effects t stays) routed.asked))
     routed.renewals
 
@@ -117,22 +117,22 @@ take_subscribe s l past at task seq asks effects released k legal e differ here 
     now : List Entry
     now = entry at (c.Take task seq (requests.Subscribe asks)) effects ∷ past
 
-    same_granted : (id : Option ℕ) → (asked_by task (requests.Subscribe asks) (opened_by task seq (requests.Subscribe asks) id) k).granted ≡ k.granted
+    same_granted : (id : Option ℕ) → (asked_by task (requests.Subscribe asks) (opened_by task seq (requests.Subscribe asks) (sent_filters effects) id) k).granted ≡ k.granted
     same_granted None = refl
     same_granted (Some id) = refl
 
-    same_renewals : (id : Option ℕ) → (asked_by task (requests.Subscribe asks) (opened_by task seq (requests.Subscribe asks) id) k).renewals ≡ k.renewals
+    same_renewals : (id : Option ℕ) → (asked_by task (requests.Subscribe asks) (opened_by task seq (requests.Subscribe asks) (sent_filters effects) id) k).renewals ≡ k.renewals
     same_renewals None = refl
     same_renewals (Some id) = refl
 
     asked : (id : Option ℕ) → Matched (IsAsked (entry at (c.Take task seq (requests.Subscribe asks)) effects ∷ past)) k.asked (subscribes_in (pending_of past))
-        → Matched (IsAsked (entry at (c.Take task seq (requests.Subscribe asks)) effects ∷ past)) (asked_by task (requests.Subscribe asks) (opened_by task seq (requests.Subscribe asks) id) k).asked
-        (subscribes_in (pending_of past ++ opened_by task seq (requests.Subscribe asks) id))
+        → Matched (IsAsked (entry at (c.Take task seq (requests.Subscribe asks)) effects ∷ past)) (asked_by task (requests.Subscribe asks) (opened_by task seq (requests.Subscribe asks) (sent_filters effects) id) k).asked
+        (subscribes_in (pending_of past ++ opened_by task seq (requests.Subscribe asks) (sent_filters effects) id))
     asked None m = subst (λ (cs : List Pending). Matched (IsAsked (entry at (c.Take task seq (requests.Subscribe asks)) effects ∷ past)) k.asked (subscribes_in cs)) (sym (append-nil (pending_of past))) m
     asked (Some id) m =
         subst (λ (cs : List Pending). Matched (IsAsked (entry at (c.Take task seq (requests.Subscribe asks)) effects ∷ past)) (k.asked ++ record { task = task; id = id; asks = asks; left = false } ∷ []) cs)
-        (sym (filter_append (λ (command : Pending). is_subscribe command.request) (pending_of past) (record { id = id; task = task; seq = seq; request = requests.Subscribe asks } ∷ [])))
-        (matched_behind (IsAsked (entry at (c.Take task seq (requests.Subscribe asks)) effects ∷ past)) k.asked (subscribes_in (pending_of past)) (record { task = task; id = id; asks = asks; left = false }) (record { id = id; task = task; seq = seq; request = requests.Subscribe asks }) m
+        (sym (filter_append (λ (command : Pending). is_subscribe command.request) (pending_of past) (record { id = id; task = task; seq = seq; request = requests.Subscribe asks; sent_filters = sent_filters effects } ∷ [])))
+        (matched_behind (IsAsked (entry at (c.Take task seq (requests.Subscribe asks)) effects ∷ past)) k.asked (subscribes_in (pending_of past)) (record { task = task; id = id; asks = asks; left = false }) (record { id = id; task = task; seq = seq; request = requests.Subscribe asks; sent_filters = sent_filters effects }) m
         (record { task = refl; id = refl; left = sym (stays_here past at task seq (requests.Subscribe asks) effects task refl ∙ here); filters = refl }))
 
 -- ---- An unsubscribe
@@ -178,7 +178,7 @@ take_unsubscribe s l past at task seq filters effects released k legal e differ 
         (drops_both task filters k.granted ∙ ap (without (map (route task) filters)) (routed.granted ∙ here_as past at task seq request effects (granted_of past) refl)
         ∙ filter_swapped (λ r. not (has_route (map (route task) filters) r)) (is_here now) (granted_of past) ∙ ap (λ d. filter (is_here now) (without d (granted_of past))) (sym drops))
         (all_filter (λ (g : Granted). g.sure ≡ is_sure s past g.topics) (λ g. not (is_any_of task filters g)) k.granted routed.sure)
-        (subst (λ (cs : List Pending). Matched (IsAsked now) k.asked cs) (sym (opens_none (pending_of past) task seq request (sent_id effects) refl))
+        (subst (λ (cs : List Pending). Matched (IsAsked now) k.asked cs) (sym (opens_none (pending_of past) task seq request (sent_filters effects) (sent_id effects) refl))
         (still_all now past k.asked (subscribes_in (pending_of past)) (λ t. stays_here past at task seq request effects t refl) routed.asked))
         routed.renewals)
 
@@ -221,7 +221,7 @@ take_leave s l past at task seq effects released k legal e differ routed =
     ∙ filter_as (λ (r : Route). is_here past r && not (r.task == task)) (is_here now) (granted_of past) (all_of (λ (r : Route). (is_here past r && not (r.task == task)) ≡ is_here now r) (granted_of past) (λ r. sym (gone_or r.task task (has_left r.task past))))
     ∙ ap (filter (is_here now)) (sym (ap (λ d. without d (granted_of past)) (no_unsubscribe effects task seq requests.Leave refl) ∙ none_without (granted_of past))))
     (all_filter (λ (g : Granted). g.sure ≡ is_sure s past g.topics) (λ g. not (g.task == task)) k.granted routed.sure)
-    (subst (λ (cs : List Pending). Matched (IsAsked now) (map (leaves task) k.asked) cs) (sym (opens_none (pending_of past) task seq requests.Leave (sent_id effects) refl))
+    (subst (λ (cs : List Pending). Matched (IsAsked now) (map (leaves task) k.asked) cs) (sym (opens_none (pending_of past) task seq requests.Leave (sent_filters effects) (sent_id effects) refl))
     (matched_over (IsAsked past) (IsAsked now) (leaves task) k.asked (subscribes_in (pending_of past)) (λ a command is. leave_asked past at task seq effects a command is) routed.asked))
     routed.renewals
 

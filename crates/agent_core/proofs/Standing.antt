@@ -15,18 +15,18 @@ use Rattle.agent_journal.specs.declared.request.Request.{Request}
 use Rattle.agent_journal.specs.declared.setup.Phase.{Phase}
 use Rattle.agent_journal.specs.declared.setup.Phase.TheVariants.{Down, Opening, Up, Spilled, Off}
 use Rattle.agent_journal.specs.declared.setup.Setup.{Setup}
-use Rattle.agent_journal.specs.Readings.{Pending, opens, opened_by, sent_id, accepted_of, pending_of}
-use Rattle.agent_table.specs.Histories.{IsLegalPast, phase_of, phase_by, readings, row, effects_of, due_by}
+use Rattle.agent_journal.specs.Readings.{Pending, opens, opened_by, sent_id, accepted_of, pending_of, sent_filters}
+use Rattle.agent_table.specs.Histories.{IsLegalPast, phase_of, phase_by, readings, row, effects_of, due_by, due_causes}
 use Rattle.agent_table.specs.Readings.{Readings, unless_off}
-use Rattle.agent_table.specs.Routes.{while_opening, renewals_of, routes_of, renewable_of, unsure_of}
+use Rattle.agent_table.specs.Routes.{Route, while_opening, renewals_of, routes_of, renewable_of, unsure_of}
 use Rattle.agent_table.specs.Rows.{Row}
 use Rattle.agent_table.specs.Sizes.{Sizes}
 use Rattle.agent_table.specs.Table.{row_of, cause_row}
 use Rattle.pending_acks.specs.Commands.{Differ, has_id}
 use Rattle.subscriptions.specs.Routing.{routes, renewable}
 use Rattle.agent_core.specs.After.{after}
-use Rattle.agent_core.specs.Kept.{Kept, readings_in, row_now, beginning}
-use Rattle.agent_core.specs.Laws.{IsSound, StandsAtFirst, RowsAreSame, StandsBehind}
+use Rattle.agent_core.specs.Kept.{Kept, readings_in, row_now, beginning, most_accepted}
+use Rattle.agent_core.specs.Laws.{IsSound, StandsAtFirst, RowsAreSame, StandsBehind, OnlyPublishesWait}
 use Rattle.agent_core.specs.Renewing.{as_list}
 use Rattle.agent_core.specs.Stands.{StandsFor}
 use Rattle.agent_core.specs.Tied.{CanOpen}
@@ -36,6 +36,8 @@ use Rattle.agent_core.proofs.Keeping.{keeps_next, same_readings}
 use Rattle.agent_core.proofs.Noting.{none_most, lost_same}
 use Rattle.agent_core.proofs.Ready.{IsKept, can_open, in_range, used_few}
 use Rattle.agent_core.proofs.Routed.{routed_begins, stands_on, stands_routes, stands_renewals, stands_renewable, stands_unsure}
+use Rattle.agent_core.proofs.RoutedRest.{at_rest, is_closed}
+use Rattle.agent_core.proofs.SameRows.{row_same, due_same}
 use Rattle.agent_core.proofs.Timely.{same_in_time}
 
 -- ---- At first
@@ -56,14 +58,14 @@ stands_at_first s l = record {
     takes = λ t. each_is s.tasks t 0;
     left = λ t. each_is s.tasks t false;
     breaks = none_most (s.reopen + 2);
-    accepted = refl;
+    accepted = none_most (most_accepted s);
     pending = refl;
     released = refl;
     held = refl;
     last_drawn = refl;
     ping = refl;
     last_sent = refl;
-    terminated = refl;
+    off = refl;
   };
   routes = λ goes. routed_begins s;
 }
@@ -87,40 +89,52 @@ opening_same Off xs ys same = refl
 not_off : (phase : Phase) → phase ≡ Opening → phase ≢ Off
 not_off phase opening off = absurd (cc (sym opening ∙ off))
 
-readings_same : (k : Kept) (past : List Entry) → StandsFor k past → readings_in k ≡ readings k.setup k.sizes past
+-- the routes as a set
+unless_any : (phase : Phase) (xs ys : List Route) (test : Route → Bool) → (phase ≢ Off → list_any test xs ≡ list_any test ys) → list_any test (unless_off phase xs) ≡ list_any test (unless_off phase ys)
+unless_any Down xs ys test same = same (λ e. absurd (cc e))
+unless_any Opening xs ys test same = same (λ e. absurd (cc e))
+unless_any Up xs ys test same = same (λ e. absurd (cc e))
+unless_any Spilled xs ys test same = same (λ e. absurd (cc e))
+unless_any Off xs ys test same = refl
+
+routes_same : (k : Kept) (past : List Entry) → StandsFor k past → (test : Route → Bool) → list_any test (readings_in k).routes ≡ list_any test (unless_off k.phase (routes_of past))
+routes_same k past stands test =
+    unless_any k.phase (routes k.routing) (routes_of past) test (λ goes. stands_routes k.setup past k.routing (stands.routes (λ off. goes (stands.keeps.phase ∙ off))) test)
+
+readings_same : (k : Kept) (past : List Entry) → StandsFor k past → record (readings_in k) { routes = unless_off k.phase (routes_of past) } ≡ readings k.setup k.sizes past
 readings_same k past stands =
     let is : k.phase ≡ phase_of k.setup k.sizes past = stands.keeps.phase in
-    same_readings k past stands.keeps
-    (unless_same k.phase (routes k.routing) (routes_of past) (λ goes. stands_routes k.setup past k.routing (stands.routes (λ off. goes (is ∙ off)))))
+    same_readings k past stands.legal stands.keeps
     (unless_same k.phase k.routing.renewals (renewals_of past) (λ goes. stands_renewals k.setup past k.routing (stands.routes (λ off. goes (is ∙ off)))))
     (opening_same k.phase (renewable true k.routing) (renewable_of past) (λ opening. stands_renewable k.setup k.sizes past k.routing stands.legal (sym is ∙ opening) (stands.routes (not_off (phase_of k.setup k.sizes past) (sym is ∙ opening)))))
     (opening_same k.phase (renewable false k.routing) (unsure_of k.setup past) (λ opening. stands_unsure k.setup k.sizes past k.routing stands.legal (sym is ∙ opening) (stands.routes (not_off (phase_of k.setup k.sizes past) (sym is ∙ opening)))))
 
 pub rows_are_same : RowsAreSame
-rows_are_same k past at cause stands = ap (λ (r : Readings). row_of k.setup k.sizes r at cause) (readings_same k past stands)
+rows_are_same k past at cause stands =
+    row_same k.setup k.sizes (readings_in k) (unless_off k.phase (routes_of past)) (routes_same k past stands) at cause ∙ ap (λ (r : Readings). row_of k.setup k.sizes r at cause) (readings_same k past stands)
 
 -- ---- Commands differ
 
-abbrev opened_in : ℕ → ℕ → Request → Option ℕ → Option Pending
-opened_in task seq request None = None
-opened_in task seq request (Some id) = Some (record { id = id; task = task; seq = seq; request = request })
+abbrev opened_in : ℕ → ℕ → Request → List (List ℕ) → Option ℕ → Option Pending
+opened_in task seq request names None = None
+opened_in task seq request names (Some id) = Some (record { id = id; task = task; seq = seq; request = request; sent_filters = names })
 
 abbrev opened : Cause → List Effect → Option Pending
 opened c.Opened effects = None
-opened (c.Take task seq request) effects = opened_in task seq request (sent_id effects)
+opened (c.Take task seq request) effects = opened_in task seq request (sent_filters effects) (sent_id effects)
 opened (c.Arrived packet) effects = None
 opened (c.Broke why) effects = None
 opened c.Tick effects = None
 opened c.GaveUp effects = None
 opened c.Finish effects = None
 
-opened_lists : (task seq : ℕ) (request : Request) (id : Option ℕ) → as_list (opened_in task seq request id) ≡ opened_by task seq request id
-opened_lists task seq request None = refl
-opened_lists task seq request (Some id) = refl
+opened_lists : (task seq : ℕ) (request : Request) (names : List (List ℕ)) (id : Option ℕ) → as_list (opened_in task seq request names id) ≡ opened_by task seq request names id
+opened_lists task seq request names None = refl
+opened_lists task seq request names (Some id) = refl
 
 opened_is : (cause : Cause) (effects : List Effect) → as_list (opened cause effects) ≡ opens cause effects
 opened_is c.Opened effects = refl
-opened_is (c.Take task seq request) effects = opened_lists task seq request (sent_id effects)
+opened_is (c.Take task seq request) effects = opened_lists task seq request (sent_filters effects) (sent_id effects)
 opened_is (c.Arrived packet) effects = refl
 opened_is (c.Broke why) effects = refl
 opened_is c.Tick effects = refl
@@ -184,7 +198,8 @@ pub may_past : (k : Kept) (at : ℕ) (cause : Cause) (may : Bool) → may ≡ is
 may_past k at cause may e past stands = e ∙ ap is_some (rows_are_same k past at cause stands)
 
 pub due_past : (k : Kept) (now : ℕ) (cause : Option Cause) → cause ≡ due_by k.setup k.sizes (readings_in k) now → (past : List Entry) → StandsFor k past → cause ≡ due_by k.setup k.sizes (readings k.setup k.sizes past) now
-due_past k now cause e past stands = e ∙ ap (λ (r : Readings). due_by k.setup k.sizes r now) (readings_same k past stands)
+due_past k now cause e past stands =
+    e ∙ due_same k.setup k.sizes (readings_in k) (unless_off k.phase (routes_of past)) (routes_same k past stands) now due_causes ∙ ap (λ (r : Readings). due_by k.setup k.sizes r now) (readings_same k past stands)
 
 pub step_past : (k next : Kept) (at : ℕ) (cause : Cause) (effects : List Effect) → IsSound k → effects_of (row_now k at cause) ≡ Some effects → next ≡ after k at cause effects (phase_by (row_now k at cause) k.phase)
     → (past : List Entry) → StandsFor k past → StandsFor next (record { at = at; cause = cause; effects = effects } ∷ past)
@@ -197,3 +212,8 @@ step_past k next at cause effects sound e is past stands = go (row_now k at caus
         let phase : phase_by (row_now k at cause) k.phase ≡ found.phase = ap (λ (r : Option Row). phase_by r k.phase) same in
         subst (λ (other : Kept). StandsFor other (record { at = at; cause = cause; effects = effects } ∷ past)) (sym (is ∙ ap (λ (p : Phase). after k at cause effects p) phase))
         (subst (λ (es : List Effect). StandsFor (after k at cause es found.phase) (record { at = at; cause = cause; effects = es } ∷ past)) (sym its) (stands_behind k past at cause found sound stands same))
+
+-- ---- What waits in Down
+
+pub only_publishes_wait : OnlyPublishesWait
+only_publishes_wait s l past legal down = (at_rest s l past legal (ap is_closed down)).publishes

@@ -1,5 +1,5 @@
 -- What the agent keeps behind an entry.
-use Rattle.std.specs.Prelude.{ℕ, ◌+◌, Bool, true, ◌&&◌, ◌||◌, List, [], ◌∷◌, ◌++◌, length, if◌then◌else◌, slice_set}
+use Rattle.std.specs.Prelude.{ℕ, ◌+◌, Bool, true, List, [], ◌∷◌, ◌++◌, length, if◌then◌else◌, slice_set}
 use Rattle.std.specs.List.{list_any, flat_map}
 use Rattle.mqtt_packet.specs.declared.packet.Packet.{Packet}
 use Rattle.mqtt_packet.specs.declared.packet.Packet.TheVariants as p
@@ -11,8 +11,9 @@ use Rattle.agent_journal.specs.declared.effect.Effect.{Effect}
 use Rattle.agent_journal.specs.declared.setup.Setup.{Setup}
 use Rattle.agent_journal.specs.declared.setup.Phase.{Phase}
 use Rattle.agent_journal.specs.Readings.{Pending, is_leave, accepts, is_break, opens}
+use Rattle.agent_journal.specs.Endings.{off_behind}
 use Rattle.agent_journal.specs.Wires.{sends}
-use Rattle.agent_core.specs.Kept.{Kept}
+use Rattle.agent_core.specs.Kept.{Kept, most_accepted}
 use Rattle.agent_core.specs.Completions.{Books, all_ended, is_count}
 use Rattle.agent_table.specs.Deliveries.{released_behind, held_behind}
 use Rattle.agent_table.specs.Identifiers.{last_or}
@@ -20,7 +21,6 @@ use Rattle.agent_table.specs.Readings.{at_most}
 use Rattle.agent_table.specs.Routes.{renewal_in, is_done, outcomes_in}
 use Rattle.agent_table.specs.Sends.{has_send, drawn_in}
 use Rattle.agent_table.specs.Sessions.{loses_session, ping_behind, sent_behind}
-use Rattle.agent_table.specs.Terminations.{takes_terminate}
 use Rattle.subscriptions.specs.Routing as routing
 
 -- ---- Tasks and connections
@@ -36,8 +36,8 @@ left_with _ left = left
 abbrev pub breaks_with : Setup → Cause → ℕ → ℕ
 breaks_with s cause n = if accepts cause then 0 else if is_break cause then at_most (s.reopen + 2) (n + 1) else n
 
-abbrev pub accepted_with : Cause → ℕ → ℕ
-accepted_with cause n = if accepts cause then at_most 2 (n + 1) else n
+abbrev pub accepted_with : Setup → Cause → ℕ → ℕ
+accepted_with s cause n = if accepts cause then at_most (most_accepted s) (n + 1) else n
 
 -- ---- Routes
 
@@ -110,7 +110,7 @@ after k at cause effects phase = record k {
   takes = takes_with cause k.takes;
   left = left_with cause k.left;
   breaks = breaks_with k.setup cause k.breaks;
-  accepted = accepted_with cause k.accepted;
+  accepted = accepted_with k.setup cause k.accepted;
   pending = (closed k cause effects).pending;
   released = (closed k cause effects).released;
   held = held_with k at cause effects;
@@ -118,5 +118,5 @@ after k at cause effects phase = record k {
   ping = ping_behind (record { at = at; cause = cause; effects = effects }) k.ping;
   last_sent = sent_behind (record { at = at; cause = cause; effects = effects }) k.last_sent;
   routing = (closed k cause effects).routing;
-  terminated = (takes_terminate cause && has_send effects) || k.terminated;
+  off = off_behind k.phase phase cause k.off;
 }

@@ -1,9 +1,11 @@
 -- What the agent keeps, as plain data: its setup, its sizes, and what the table reads off its journal.
-use Rattle.std.specs.Prelude.{ℕ, Bool, false, List, [], ◌++◌, map, Option, None, replicate, slice_index_or}
+use Rattle.std.specs.Prelude.{ℕ, Bool, false, List, [], ◌++◌, map, Option, None, replicate, slice_index_or, if◌then◌else◌}
 use Rattle.agent_journal.specs.declared.entry.Cause.{Cause}
+use Rattle.agent_journal.specs.declared.off.OffBy.{OffBy}
 use Rattle.agent_journal.specs.declared.setup.Setup.{Setup}
 use Rattle.agent_journal.specs.declared.setup.Phase.{Phase}
 use Rattle.agent_journal.specs.declared.setup.Phase.TheVariants.{Down}
+use Rattle.agent_journal.specs.Offs.{is_terminated}
 use Rattle.agent_journal.specs.Readings.{Pending}
 use Rattle.agent_table.specs.Readings.{Readings, unless_off}
 use Rattle.agent_table.specs.Routes.{while_opening}
@@ -26,7 +28,7 @@ pub record Kept : Type 0 where
   pub left : List Bool
   -- how many connections or openings broke since the last accepted CONNACK, at most reopen + 2
   pub breaks : ℕ
-  -- how many CONNACKs accepted, at most two
+  -- how many CONNACKs accepted, at most most_accepted
   pub accepted : ℕ
   pub pending : List Pending
   pub released : List ℕ
@@ -36,7 +38,12 @@ pub record Kept : Type 0 where
   pub ping : Option ℕ
   pub last_sent : Option ℕ
   pub routing : Routing
-  pub terminated : Bool
+  -- how the agent came to Off
+  pub off : Option OffBy
+
+-- More CONNACKs that accepted read like so many: only whether the first was, and, where an old session is wiped, the second.
+abbrev pub most_accepted : Setup → ℕ
+most_accepted s = if s.wipe then 2 else 1
 
 -- what the table reads
 abbrev pub readings_in : Kept → Readings
@@ -59,7 +66,7 @@ readings_in k = record {
   renewals = unless_off k.phase k.routing.renewals;
   renewable = while_opening k.phase (renewable true k.routing);
   unsure = while_opening k.phase (renewable false k.routing);
-  terminated = k.terminated;
+  terminated = is_terminated k.off;
 }
 
 abbrev pub row_now : Kept → ℕ → Cause → Option Row
@@ -88,5 +95,5 @@ beginning s l = record {
   ping = None;
   last_sent = None;
   routing = nothing;
-  terminated = false;
+  off = None;
 }

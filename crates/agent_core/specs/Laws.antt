@@ -4,8 +4,11 @@ use Rattle.std.specs.List.{AllByRecursion}
 use Rattle.agent_journal.specs.declared.entry.Cause.{Cause}
 use Rattle.agent_journal.specs.declared.entry.Entry.{Entry}
 use Rattle.agent_journal.specs.declared.setup.Setup.{Setup}
+use Rattle.agent_journal.specs.declared.setup.Phase.TheVariants.{Down}
+use Rattle.agent_journal.specs.Readings.{Pending, pending_of}
 use Rattle.agent_table.specs.Deliveries.{is_open_publish, is_exactly_once}
-use Rattle.agent_table.specs.Histories.{row}
+use Rattle.agent_table.specs.Effects.{is_publish}
+use Rattle.agent_table.specs.Histories.{IsLegalPast, phase_of, row}
 use Rattle.agent_table.specs.Rows.{Row}
 use Rattle.agent_table.specs.Sizes.{Sizes}
 use Rattle.pending_acks.specs.Commands.{Differ}
@@ -39,3 +42,7 @@ RowsAreSame = (k : Kept) (past : List Entry) (at : ℕ) (cause : Cause) → Stan
 abbrev pub StandsBehind : Type 0
 StandsBehind = (k : Kept) (past : List Entry) (at : ℕ) (cause : Cause) (found : Row) → IsSound k → StandsFor k past → row_now k at cause ≡ Some found
     → StandsFor (after k at cause found.effects found.phase) (record { at = at; cause = cause; effects = found.effects } ∷ past)
+
+-- In a legal journal only publishes wait in Down for the next connection.
+abbrev pub OnlyPublishesWait : Type 0
+OnlyPublishesWait = (s : Setup) (l : Sizes) (past : List Entry) → IsLegalPast s l past → phase_of s l past ≡ Down → AllByRecursion (λ (command : Pending). is_publish command.request ≡ true) (pending_of past)

@@ -7,6 +7,7 @@ pub mod Renewing
 pub mod Kept
 pub mod Completions
 pub mod After
+pub mod Reordered
 pub mod Routed
 pub mod Stands
 pub mod Laws

@@ -10,6 +10,7 @@ use Rattle.agent_table.specs.Arrivals.{is_subscribe}
 use Rattle.agent_table.specs.Filters.{is_one_of}
 use Rattle.agent_table.specs.Routes.{Route, Grant, asks_in, granted_of, renewals_of, lost_of, sure_of, qos_of, grants_of, asked_in, last_asked}
 use Rattle.subscriptions.specs.Routing.{Granted, Asked, Routing, route_of}
+use Rattle.agent_core.specs.Reordered.{IsReordered}
 
 -- two lists of one length, and the relation holds at each place
 abbrev pub Matched : {X Y : Type 0} → (X → Y → Type 0) → List X → List Y → Type 0
@@ -65,7 +66,10 @@ pub record IsQualified (past : List Entry) (k : Routing) : Type 0 where
   pub granted : AllByRecursion (λ (g : Granted). g.qos ≡ qos_of past g.topics) k.granted
   pub asked : Matched (IsAskedFor past) k.asked (subscribes_in (pending_of past))
 
--- both together
+-- Both together. What is kept of granted routes may be in any order.
 pub record RoutesStand (s : Setup) (past : List Entry) (k : Routing) : Type 0 where
-  pub routed : Routed s past k
-  pub qualified : IsQualified past k
+  -- the same in the order in which they were granted
+  pub ordered : List Granted
+  pub granted : IsReordered ordered k.granted
+  pub routed : Routed s past (record k { granted = ordered })
+  pub qualified : IsQualified past (record k { granted = ordered })

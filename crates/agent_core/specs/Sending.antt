@@ -1,6 +1,6 @@
 -- What one effect sends.
 use Rattle.std.specs.Prelude.{ℕ, Bool, true, false, List, [], Option, None}
-use Rattle.agent_journal.specs.Readings.{command_id}
+use Rattle.agent_journal.specs.Readings.{command_id, filters_in}
 use Rattle.agent_journal.specs.declared.effect.Effect.{Effect}
 use Rattle.agent_journal.specs.declared.effect.Effect.TheVariants as f
 use Rattle.agent_table.specs.Sends.{is_ping, is_received, drawn_by}
@@ -24,3 +24,8 @@ draws _ = []
 abbrev pub identifies : Effect → Option ℕ
 identifies (f.Send packet) = command_id packet
 identifies _ = None
+
+-- the filters that an UNSUBSCRIBE names
+abbrev pub names : Effect → List (List ℕ)
+names (f.Send packet) = filters_in packet
+names _ = []

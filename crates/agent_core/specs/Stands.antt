@@ -7,9 +7,9 @@ use Rattle.agent_table.specs.Deliveries.{released_of, held_of}
 use Rattle.agent_table.specs.Histories.{IsLegalPast, phase_of}
 use Rattle.agent_table.specs.Identifiers.{last_drawn_of}
 use Rattle.agent_table.specs.Readings.{sends_newest, at_most}
-use Rattle.agent_table.specs.Sessions.{ping_of, last_sent_of}
-use Rattle.agent_table.specs.Terminations.{terminated_of}
-use Rattle.agent_core.specs.Kept.{Kept}
+use Rattle.agent_table.specs.Offs.{off_of}
+use Rattle.agent_table.specs.Sessions.{ping_of, last_sent_of, while_connected}
+use Rattle.agent_core.specs.Kept.{Kept, most_accepted}
 use Rattle.agent_core.specs.Routed.{RoutesStand}
 
 -- all but the routes
@@ -20,14 +20,14 @@ pub record Keeps (k : Kept) (past : List Entry) : Type 0 where
   pub takes : (t : ℕ) → slice_index_or k.takes t 0 ≡ takes_of t past
   pub left : (t : ℕ) → slice_index_or k.left t false ≡ has_left t past
   pub breaks : k.breaks ≡ at_most (k.setup.reopen + 2) (breaks_of past)
-  pub accepted : k.accepted ≡ at_most 2 (accepted_of past)
+  pub accepted : k.accepted ≡ at_most (most_accepted k.setup) (accepted_of past)
   pub pending : k.pending ≡ pending_of past
   pub released : k.released ≡ released_of past
   pub held : k.held ≡ held_of k.setup past
   pub last_drawn : k.last_drawn ≡ last_drawn_of past
-  pub ping : k.ping ≡ ping_of past
-  pub last_sent : k.last_sent ≡ last_sent_of past
-  pub terminated : k.terminated ≡ terminated_of past
+  pub ping : while_connected k.phase k.ping ≡ while_connected k.phase (ping_of past)
+  pub last_sent : while_connected k.phase k.last_sent ≡ while_connected k.phase (last_sent_of past)
+  pub off : k.off ≡ off_of k.setup k.sizes past
 
 -- The journal is legal, and all of it is kept. Once the agent has ended no row reads the routes.
 pub record StandsFor (k : Kept) (past : List Entry) : Type 0 where

@@ -5,6 +5,7 @@ ghost use Rattle.qos_state.specs.Deliveries as stages;
 ghost use Rattle.subscriptions.specs.Routing as routes;
 ghost use Rattle.agent_journal.specs.declared.entry.Entry.{Entry};
 ghost use Rattle.agent_journal.specs.Readings.{pending_of};
+ghost use Rattle.agent_journal.specs.Setups.{is_client};
 ghost use Rattle.agent_table.specs.Histories.{effects_of, phase_by, due_by, phase_of, row, readings};
 ghost use Rattle.agent_core.specs.After.{after};
 ghost use Rattle.agent_core.specs.Kept.{readings_in, row_now, beginning};
@@ -20,7 +21,7 @@ mod rows;
 mod steps;
 mod taken;
 
-use agent_journal::{Cause, Entry, Phase, Setup, Why};
+use agent_journal::{Cause, Entry, OffBy, Phase, Setup, Why};
 use pending_acks::PendingAcks;
 use qos_state::QosState;
 use std::alloc::{AllocError, Global};
@@ -46,12 +47,12 @@ pub struct Core<const ACKS: usize, const IN: usize, const ROUTES: usize> {
     last_drawn: u16,
     ping: Option<u64>,
     last_sent: Option<u64>,
-    terminated: bool,
+    off: Option<OffBy>,
 }
 
 impl<const ACKS: usize, const IN: usize, const ROUTES: usize> Model for Core<ACKS, IN, ROUTES> {
     ghost use Rattle.std.specs.Prelude.{◌≡◌, ◌≤◌, ◌+◌, length};
-    ghost use Rattle.agent_core.specs.Kept.{Kept};
+    ghost use Rattle.agent_core.specs.Kept.{Kept, most_accepted};
     ghost use Rattle.agent_core.specs.Tied.{IsTied, IsBounded};
 
     ghost Value = { Kept };
@@ -73,20 +74,23 @@ impl<const ACKS: usize, const IN: usize, const ROUTES: usize> Model for Core<ACK
       ping = c.ping;
       last_sent = c.last_sent;
       routing = c.subscriptions;
-      terminated = c.terminated;
+      off = c.off;
     } };
 
-    ghost invariant = { λ c. (length c.takes.items ≡ c.setup.tasks) × (length c.left.items ≡ c.setup.tasks) × (c.breaks ≤ c.setup.reopen + 2) × (c.accepted ≤ 2) × IsTied c.pending c.qos
+    ghost invariant = { λ c. (length c.takes.items ≡ c.setup.tasks) × (length c.left.items ≡ c.setup.tasks) × (c.breaks ≤ c.setup.reopen + 2) × (c.accepted ≤ most_accepted c.setup) × IsTied c.pending c.qos
         × IsBounded ACKS ROUTES c.subscriptions };
 }
 
 impl<const ACKS: usize, const IN: usize, const ROUTES: usize> Core<ACKS, IN, ROUTES> {
     /// The agent before its first entry. At most ACKS commands can be open, publishes at QoS 0 apart; IN
     /// identifiers of received QoS 2 publishes can be held; and there can be ROUTES pairs of a task and a
-    /// filter. Where memory runs out the setup comes back.
+    /// filter. `setup.reopen` is at most 4,294,967,294, so that one more fits a u32, and the client has 1 to 128
+    /// bytes from 21 to 7E hexadecimal. Where memory runs out the setup comes back.
     pub fn new(alloc: Global, setup: Setup) -> Result<Self, (Setup, AllocError)>
         requires sizes { (0 < ACKS) × (ACKS ≤ 1024) × (0 < IN) × (IN ≤ 1024) × (0 < ROUTES) × (ROUTES ≤ 1024) }
         requires tasks { (0 < setup.tasks) × (setup.tasks ≤ 8) }
+        requires reopen { setup.reopen ≤ 4294967294 }
+        requires client { is_client setup.client ≡ true }
         ensures setup { IfOk result (λ core. core.setup ≡ setup) }
         ensures stands { IfOk result (λ core. StandsFor core []) }
         ensures begins { IfOk result (λ core. core ≡ beginning setup (record { acks = ACKS; inbound = IN; routes = ROUTES })) }
@@ -110,7 +114,7 @@ impl<const ACKS: usize, const IN: usize, const ROUTES: usize> Core<ACKS, IN, ROU
                 last_drawn: 0,
                 ping: None,
                 last_sent: None,
-                terminated: false,
+                off: None,
             }),
             Err(e) => Err((setup, e)),
         }

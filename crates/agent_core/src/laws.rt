@@ -3,7 +3,6 @@
 ghost use Rattle.agent_core.specs.Laws as laws;
 
 /// What a new agent keeps stands for the journal without entries.
-#[tactic(auto, using(crate::proofs::Standing::stands_at_first))]
 pub fn stands_at_first()
     ensures { laws.StandsAtFirst }
 {}
@@ -18,4 +17,10 @@ pub fn rows_are_same()
 #[tactic(auto, using(crate::proofs::Standing::stands_behind))]
 pub fn stands_behind()
     ensures { laws.StandsBehind }
+{}
+
+/// In a legal journal only publishes wait in Down for the next connection.
+#[tactic(auto, using(crate::proofs::Standing::only_publishes_wait))]
+pub fn only_publishes_wait()
+    ensures { laws.OnlyPublishesWait }
 {}

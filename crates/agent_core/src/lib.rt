@@ -5,6 +5,7 @@ mod agent;
 mod awaited;
 mod books;
 mod effects;
+mod filters;
 mod identifiers;
 mod laws;
 mod noted;
@@ -15,4 +16,4 @@ mod sends;
 
 pub use agent::Core;
 pub use agent_journal::{Phase, Setup};
-pub use laws::{rows_are_same, stands_at_first, stands_behind};
+pub use laws::{only_publishes_wait, rows_are_same, stands_at_first, stands_behind};

@@ -6,6 +6,7 @@ ghost use Rattle.agent_table.specs.Deliveries.{released_behind, held_behind};
 ghost use Rattle.pending_acks.specs.Commands.{has_id};
 ghost use Rattle.agent_core.specs.After as after;
 ghost use Rattle.agent_core.specs.Completions.{books, all_ended};
+ghost use Rattle.agent_core.specs.Kept.{most_accepted};
 ghost use Rattle.agent_core.specs.Renewing.{as_list};
 ghost use Rattle.agent_core.specs.Tied.{IsTied, CanHold, CanOpen, InRange};
 ghost use Rattle.agent_journal.specs.declared.setup.Setup.{Setup};
@@ -13,7 +14,6 @@ ghost use Rattle.agent_journal.specs.declared.effect.Effect.{Effect};
 ghost use Rattle.agent_journal.specs.Readings.{accepts, is_accepting, is_break};
 ghost use Rattle.agent_table.specs.Sends.{has_send, sends_ping};
 ghost use Rattle.agent_table.specs.Sessions.{answered, answered_by, ping_behind, sent_behind};
-ghost use Rattle.agent_table.specs.Terminations.{takes_terminate, is_terminate};
 
 use crate::books::complete_all;
 use crate::opened::{open, receive};
@@ -101,18 +101,25 @@ pub fn breaks_behind(reopen: u32, breaks: u64, cause: &Cause) -> u64
     }
 }
 
-/// How many CONNACKs accepted, at most two: more read alike.
+/// How many CONNACKs accepted, at most so many: more read alike.
 #[tactic(auto, using(crate::proofs::Counting::one_more, crate::proofs::Counting::no_more))]
-pub fn accepted_behind(accepted: u64, cause: &Cause) -> u64
-    requires { accepted ≤ 2 }
-    ensures value { result ≡ after.accepted_with cause.now accepted }
-    ensures most { result ≤ 2 }
+pub fn accepted_behind(most: u64, accepted: u64, cause: &Cause) -> u64
+    requires { accepted ≤ most }
+    ensures value { (s : Setup) → most_accepted s ≡ most → result ≡ after.accepted_with s cause.now accepted }
+    ensures most { result ≤ most }
 {
-    if accepts(cause) && accepted < 2 {
+    if accepts(cause) && accepted < most {
         accepted + 1
     } else {
         accepted
     }
+}
+
+/// Two where an old session is to be wiped first, and else one.
+pub fn most_accepted(wipe: bool) -> u64
+    ensures { (s : Setup) → s.wipe ≡ wipe → result ≡ most_accepted s }
+{
+    if wipe { 2 } else { 1 }
 }
 
 fn accepts(cause: &Cause) -> bool
@@ -182,20 +189,4 @@ pub fn sent_behind(sent: Option<u64>, at: u64, cause: &Cause, sends: bool) -> Op
         Cause::Opened => None,
         _ => sent,
     }
-}
-
-/// Whether a Terminate is taken.
-pub fn takes_terminate(cause: &Cause) -> bool
-    ensures { result ≡ takes_terminate cause.now }
-{
-    match cause {
-        Cause::Take { request, .. } => is_terminate(request),
-        _ => false,
-    }
-}
-
-fn is_terminate(request: &Request) -> bool
-    ensures { result ≡ is_terminate request.now }
-{
-    matches!(request, Request::Terminate)
 }

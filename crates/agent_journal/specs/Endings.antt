@@ -1,35 +1,28 @@
 -- How a run ends: by the entry behind which the phase was Off for the first time.
-use Rattle.std.specs.Prelude.{ℕ, ◌==◌, Bool, true, false, List, Option, Some, None, if◌then◌else◌, codes}
-use Rattle.mqtt_packet.specs.declared.packet.Packet.{Packet}
-use Rattle.mqtt_packet.specs.declared.packet.Packet.TheVariants as p
+use Rattle.std.specs.Prelude.{ℕ, Bool, true, false, List, Option, Some, None, if◌then◌else◌, codes}
 use Rattle.agent_journal.specs.declared.entry.Cause.{Cause}
-use Rattle.agent_journal.specs.declared.entry.Cause.TheVariants as c
 use Rattle.agent_journal.specs.declared.ending.Ending.{Ending}
 use Rattle.agent_journal.specs.declared.ending.Ending.TheVariants as e
+use Rattle.agent_journal.specs.declared.off.OffBy.{OffBy}
+use Rattle.agent_journal.specs.declared.off.OffBy.TheVariants as by
 use Rattle.agent_journal.specs.declared.setup.Phase.{Phase}
 use Rattle.agent_journal.specs.declared.setup.Phase.TheVariants.{Down, Opening, Up, Spilled, Off}
+use Rattle.agent_journal.specs.Offs.{by_cause}
 
-abbrev pub by_code : ℕ → Ending
-by_code code = if code == 0 then e.Held else e.Refused code
-
--- by a packet that arrived in Opening
-abbrev pub by_first_packet : Packet → Ending
-by_first_packet (p.ConnAck present code) = by_code code
-by_first_packet _ = e.Bytes
-
-abbrev pub ending_by_packet : Phase → Packet → Ending
-ending_by_packet Down packet = e.Bytes
-ending_by_packet Opening packet = by_first_packet packet
-ending_by_packet Up packet = e.Bytes
-ending_by_packet Spilled packet = e.Bytes
-ending_by_packet Off packet = e.Bytes
+-- told by how the agent came to Off
+abbrev pub ending_of : OffBy → Ending
+ending_of by.Finish = e.Done
+ending_of by.Disconnect = e.Done
+ending_of by.Terminate = e.Done
+ending_of by.GaveUp = e.GaveUp
+ending_of (by.Refused code) = e.Refused code
+ending_of by.Bytes = e.Bytes
+ending_of by.Wrong = e.Bytes
+ending_of by.Held = e.Held
 
 -- by a cause that came in this phase and led to Off
 abbrev pub ending_by : Phase → Cause → Ending
-ending_by phase (c.Arrived packet) = ending_by_packet phase packet
-ending_by phase (c.Broke why) = e.Bytes
-ending_by phase c.GaveUp = e.GaveUp
-ending_by phase _ = e.Done
+ending_by phase cause = ending_of (by_cause phase cause)
 
 abbrev pub is_off : Phase → Bool
 is_off Down = false
@@ -38,7 +31,11 @@ is_off Up = false
 is_off Spilled = false
 is_off Off = true
 
--- the ending behind one more entry, with the phases before and behind it
+-- how the agent came to Off behind one more entry, with the phases before and behind it; None where it isn't there
+abbrev pub off_behind : Phase → Phase → Cause → Option OffBy → Option OffBy
+off_behind before behind cause off = if is_off before then off else if is_off behind then Some (by_cause before cause) else None
+
+-- and the ending
 abbrev pub ending_behind : Phase → Phase → Cause → Option Ending → Option Ending
 ending_behind before behind cause ending = if is_off before then ending else if is_off behind then Some (ending_by before cause) else None
 

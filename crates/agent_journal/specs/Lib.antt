@@ -1,6 +1,7 @@
 pub mod Setups
 pub mod Requests
 pub mod Readings
+pub mod Offs
 pub mod Endings
 pub mod Projections
 pub mod Notes

@@ -1,7 +1,7 @@
 -- What is read off a journal. The past of a journal is its entries with the newest first. Each reading is a count or a
 -- filter of the past.
 use Rattle.std.specs.Prelude.{ℕ, ◌+◌, Bool, true, false, ◌&&◌, ◌||◌, not, ◌==◌, List, [], ◌∷◌, ◌++◌, Option, Some, None, if◌then◌else◌, filter}
-use Rattle.std.specs.List.{list_any}
+use Rattle.std.specs.List.{list_any, flat_map}
 use Rattle.mqtt_packet.specs.declared.qos.Qos.TheVariants.{AtMostOnce, AtLeastOnce, ExactlyOnce}
 use Rattle.mqtt_packet.specs.declared.packet.Packet.{Packet}
 use Rattle.mqtt_packet.specs.declared.packet.Packet.TheVariants as p
@@ -13,13 +13,15 @@ use Rattle.agent_journal.specs.declared.entry.Cause.TheVariants as c
 use Rattle.agent_journal.specs.declared.entry.Entry.{Entry}
 use Rattle.agent_journal.specs.declared.effect.Effect.{Effect}
 use Rattle.agent_journal.specs.declared.effect.Effect.TheVariants as f
+use Rattle.agent_journal.specs.Wires.{sends}
 
--- An open command: the identifier of its packet, its task and number, and what it asks.
+-- An open command: the identifier of its packet, its task and number, what it asks, and the filters that its UNSUBSCRIBE names.
 pub record Pending : Type 0 where
   pub id : ℕ
   pub task : ℕ
   pub seq : ℕ
   pub request : Request
+  pub sent_filters : List (List ℕ)
 
 abbrev pub last_time_of : List Entry → ℕ
 last_time_of [] = 0
@@ -102,13 +104,21 @@ sent_id (f.Done task seq outcome ∷ effects) = sent_id effects
 sent_id (f.Pass task message ∷ effects) = sent_id effects
 sent_id (f.Closed task ∷ effects) = sent_id effects
 
-abbrev pub opened_by : ℕ → ℕ → Request → Option ℕ → List Pending
-opened_by task seq request None = []
-opened_by task seq request (Some id) = record { id = id; task = task; seq = seq; request = request } ∷ []
+-- the filters that an UNSUBSCRIBE names
+abbrev pub filters_in : Packet → List (List ℕ)
+filters_in (p.Unsubscribe id filters) = filters
+filters_in _ = []
+
+abbrev pub sent_filters : List Effect → List (List ℕ)
+sent_filters effects = flat_map filters_in (sends effects)
+
+abbrev pub opened_by : ℕ → ℕ → Request → List (List ℕ) → Option ℕ → List Pending
+opened_by task seq request filters None = []
+opened_by task seq request filters (Some id) = record { id = id; task = task; seq = seq; request = request; sent_filters = filters } ∷ []
 
 -- the command that an entry opens: a Take with a Send of its own packet
 abbrev pub opens : Cause → List Effect → List Pending
-opens (c.Take task seq request) effects = opened_by task seq request (sent_id effects)
+opens (c.Take task seq request) effects = opened_by task seq request (sent_filters effects) (sent_id effects)
 opens _ effects = []
 
 -- whether an effect completes command seq of a task

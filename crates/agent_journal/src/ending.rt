@@ -4,8 +4,8 @@ ghost use Rattle.std.specs.Prelude.{◌≡◌};
 ghost use Rattle.agent_journal.specs.Endings as endings;
 
 use crate::entry::Cause;
+use crate::off::OffBy;
 use crate::setup::Phase;
-use mqtt_packet::Packet;
 
 /// How a run of the agent ended.
 #[derive(Clone, Copy, Debug, PartialEq, Eq)]
@@ -27,11 +27,19 @@ impl Ending {
     pub fn by(phase: Phase, cause: &Cause) -> Ending
         ensures { result ≡ endings.ending_by phase cause.now }
     {
-        match cause {
-            Cause::Finish | Cause::Take { .. } | Cause::Opened | Cause::Tick => Ending::Done,
-            Cause::GaveUp => Ending::GaveUp,
-            Cause::Broke { .. } => Ending::Bytes,
-            Cause::Arrived { packet } => Ending::by_packet(phase, packet),
+        Ending::of(OffBy::by(phase, cause))
+    }
+
+    /// How a run ends where the agent came to Off so.
+    pub fn of(off: OffBy) -> Ending
+        ensures { result ≡ endings.ending_of off }
+    {
+        match off {
+            OffBy::Finish | OffBy::Disconnect | OffBy::Terminate => Ending::Done,
+            OffBy::GaveUp => Ending::GaveUp,
+            OffBy::Refused { code } => Ending::Refused { code },
+            OffBy::Bytes | OffBy::Wrong => Ending::Bytes,
+            OffBy::Held => Ending::Held,
         }
     }
 
@@ -48,21 +56,6 @@ impl Ending {
             (Phase::Off, _) => ending,
             (_, Phase::Off) => Some(Ending::by(before, cause)),
             _ => None,
-        }
-    }
-
-    fn by_packet(phase: Phase, packet: &Packet) -> Ending
-        ensures { result ≡ endings.ending_by_packet phase packet.now }
-    {
-        match (phase, packet) {
-            (Phase::Opening, Packet::ConnAck { code, .. }) => {
-                if *code == 0 {
-                    Ending::Held
-                } else {
-                    Ending::Refused { code: *code }
-                }
-            }
-            _ => Ending::Bytes,
         }
     }
 

@@ -59,7 +59,7 @@ any_by true n = sym (ap not (no_zero n))
 any_by false n = ap (λ m. not (m == 0)) (omega arith)
 
 -- some effect completes it exactly where the count isn't 0
-any_count : (p : Effect → Bool) (effects : List Effect) → list_any p effects ≡ not (count_by p effects == 0)
+pub any_count : {X : Type 0} (p : X → Bool) (effects : List X) → list_any p effects ≡ not (count_by p effects == 0)
 any_count p [] = refl
 any_count p (x ∷ effects) = ap (λ b. p x || b) (any_count p effects) ∙ any_by (p x) (count_by p effects) ∙ ap (λ n. not (n == 0)) (sym (count_more p x effects))
 

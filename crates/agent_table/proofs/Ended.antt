@@ -18,6 +18,7 @@ use Rattle.agent_journal.specs.Projections.{commands_of}
 use Rattle.agent_table.proofs.Commands.{below, answered_by}
 use Rattle.agent_table.specs.Histories.{IsLegalPast, phase_of, phase_by, readings, row, effects_of}
 use Rattle.agent_table.specs.Laws.{EndsWithNoneOpen, CommandsCompleteOnce, open_of}
+use Rattle.agent_table.specs.Offs.{NoneIsOpenInOff}
 use Rattle.agent_table.specs.Readings.{Readings}
 use Rattle.agent_table.specs.Rows.{Row, when}
 use Rattle.agent_table.specs.Sessions.{is_first}
@@ -170,8 +171,11 @@ none_at_all (command ∷ commands) h =
     let one = ap (λ b. cond {A = ℕ} b 1 0) own in
     let none : ⊥ = omega (arith, more, one, h command.task command.seq) in absurd none
 
+pub none_is_open_in_off : NoneIsOpenInOff
+none_is_open_in_off s l past legal off = none_at_all (pending_of past) (λ t q. (sane t q s l past legal).off off)
+
 pub ends_with_none_open : EndsWithNoneOpen
-ends_with_none_open s l past legal whole = none_at_all (pending_of past) (λ t q. (sane t q s l past legal).off whole.ended)
+ends_with_none_open s l past legal whole = none_is_open_in_off s l past legal whole.ended
 
 pub commands_complete_once : CommandsCompleteOnce
 commands_complete_once s l past legal whole = record {

@@ -32,3 +32,7 @@ pub mod FirstUnused
 pub mod Receiving
 pub mod Ordered
 pub mod Sessions
+pub mod Connecting
+pub mod Told
+pub mod BreaksFew
+pub mod OnlyTasks

@@ -13,7 +13,7 @@ use Rattle.agent_journal.specs.declared.effect.Effect.TheVariants as f
 use Rattle.agent_journal.specs.declared.setup.Setup.{Setup}
 use Rattle.agent_journal.specs.declared.setup.Phase.{Phase}
 use Rattle.agent_journal.specs.declared.setup.Phase.TheVariants.{Down, Opening, Up, Spilled, Off}
-use Rattle.agent_journal.specs.Readings.{Pending, completes, sent_id, opened_by}
+use Rattle.agent_journal.specs.Readings.{Pending, completes, sent_filters, sent_id, opened_by}
 use Rattle.agent_table.proofs.Commands.{answered_in}
 use Rattle.agent_table.specs.Effects.{done, cancel_all, close, closed_below, fresh_id}
 use Rattle.agent_table.specs.Readings.{Readings}
@@ -51,14 +51,14 @@ module _ (t q : ℕ) where
 
   -- where nothing completes it, the command is open then exactly if it is this one
   abbrev Opens : ℕ → ℕ → Request → List Effect → Type 0
-  Opens task seq request effects = dones t q effects ≡ 0 → opened t q (opened_by task seq request (sent_id effects)) ≡ own task seq
+  Opens task seq request effects = dones t q effects ≡ 0 → opened t q (opened_by task seq request (sent_filters effects) (sent_id effects)) ≡ own task seq
 
   drawn : (task seq : ℕ) (request : Request) (effects : List Effect) (id : ℕ) → sent_id effects ≡ Some id → Opens task seq request effects
   drawn task seq request effects id is none =
-      ap (λ (n : Option ℕ). opened t q (opened_by task seq request n)) is ∙ count_more (λ (c : Pending). (c.task == t) && (c.seq == q)) (record { id = id; task = task; seq = seq; request = request }) [] ∙ omega arith
+      ap (λ (n : Option ℕ). opened t q (opened_by task seq request (sent_filters effects) n)) is ∙ count_more (λ (c : Pending). (c.task == t) && (c.seq == q)) (record { id = id; task = task; seq = seq; request = request; sent_filters = sent_filters effects }) [] ∙ omega arith
 
   completed : (task seq : ℕ) (request : Request) (effects : List Effect) → sent_id effects ≡ None → own task seq ≤ dones t q effects → Opens task seq request effects
-  completed task seq request effects is h none = ap (λ (n : Option ℕ). opened t q (opened_by task seq request n)) is ∙ (omega (arith, none, h))
+  completed task seq request effects is h none = ap (λ (n : Option ℕ). opened t q (opened_by task seq request (sent_filters effects) n)) is ∙ (omega (arith, none, h))
 
   at_once_opens : (task seq : ℕ) (request : Request) (outcome : Outcome) → Opens task seq request (takes.at_once task seq outcome)
   at_once_opens task seq request outcome =
@@ -78,7 +78,7 @@ module _ (t q : ℕ) where
   -- of a row
   abbrev pub RowOpens : ℕ → ℕ → Request → Option Row → Type 0
   RowOpens task seq request None = Unit {0}
-  RowOpens task seq request (Some row) = dones t q row.effects ≡ 0 → opened t q (opened_by task seq request (sent_id row.effects)) ≡ answered_in t q task seq request
+  RowOpens task seq request (Some row) = dones t q row.effects ≡ 0 → opened t q (opened_by task seq request (sent_filters row.effects) (sent_id row.effects)) ≡ answered_in t q task seq request
 
   delivered_opens : (l : Sizes) (r : Readings) (task seq : ℕ) (qos : Qos) (topic payload : List ℕ) → ((id : ℕ) → sent_id (f.Send (p.Publish false qos false topic id payload) ∷ []) ≡ Some id)
       → Opens task seq (requests.Publish qos topic payload) (takes.delivered l r task seq qos topic payload)

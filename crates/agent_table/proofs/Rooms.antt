@@ -22,7 +22,7 @@ use Rattle.agent_journal.specs.declared.effect.Effect.TheVariants as f
 use Rattle.agent_journal.specs.declared.setup.Setup.{Setup}
 use Rattle.agent_journal.specs.declared.setup.Phase.{Phase}
 use Rattle.agent_journal.specs.declared.setup.Phase.TheVariants.{Down, Opening, Up, Spilled, Off}
-use Rattle.agent_journal.specs.Readings.{Pending, pending_of, has_left, leaves_by, opens, opened_by, sent_id, stays_open}
+use Rattle.agent_journal.specs.Readings.{Pending, pending_of, has_left, leaves_by, opens, opened_by, sent_filters, sent_id, stays_open}
 use Rattle.agent_table.specs.Effects.{close}
 use Rattle.agent_table.specs.Filters.{is_one_of}
 use Rattle.agent_table.specs.Histories.{IsLegalPast, readings, row, effects_of}
@@ -127,12 +127,12 @@ record Opens (l : Sizes) (r : Readings) (opened : List Pending) : Type 0 where
 none_opened : (l : Sizes) (r : Readings) → Opens l r []
 none_opened l r = record { few = λ h. omega (arith, h); routes = inl refl }
 
-one_opened : (l : Sizes) (r : Readings) (task seq : ℕ) (request : Request) (id : Option ℕ) → takes.is_full l r ≡ false → HasRoutes l r task request → Opens l r (opened_by task seq request id)
-one_opened l r task seq request None room has = none_opened l r
-one_opened l r task seq request (Some id) room has = record { few = λ h. (let less = leb-false l.acks (length r.pending) room in omega (arith, less)); routes = by request has }
+one_opened : (l : Sizes) (r : Readings) (task seq : ℕ) (request : Request) (names : List (List ℕ)) (id : Option ℕ) → takes.is_full l r ≡ false → HasRoutes l r task request → Opens l r (opened_by task seq request names id)
+one_opened l r task seq request names None room has = none_opened l r
+one_opened l r task seq request names (Some id) room has = record { few = λ h. (let less = leb-false l.acks (length r.pending) room in omega (arith, less)); routes = by request has }
   where
-    by : (asked : Request) → HasRoutes l r task asked → (length (asked_for (record { id = id; task = task; seq = seq; request = asked } ∷ [])) ≡ 0)
-        ⊎ ((t : ℕ) × (asks : List Ask) × (r.phase ≡ Up) × (length (takes.routes_with r t asks) ≤ l.routes) × (asked_for (record { id = id; task = task; seq = seq; request = asked } ∷ []) ≡ map (λ ask. route t ask.filter) asks))
+    by : (asked : Request) → HasRoutes l r task asked → (length (asked_for (record { id = id; task = task; seq = seq; request = asked; sent_filters = names } ∷ [])) ≡ 0)
+        ⊎ ((t : ℕ) × (asks : List Ask) × (r.phase ≡ Up) × (length (takes.routes_with r t asks) ≤ l.routes) × (asked_for (record { id = id; task = task; seq = seq; request = asked; sent_filters = names } ∷ []) ≡ map (λ ask. route t ask.filter) asks))
     by (requests.Publish qos topic payload) has = inl refl
     by (requests.Subscribe asks) has = inr (task, asks, has.0, ltb-false l.routes (length (takes.routes_with r task asks)) has.1, append-nil (map (λ ask. route task ask.filter) asks))
     by (requests.Unsubscribe filters) has = inl refl
@@ -141,9 +141,9 @@ one_opened l r task seq request (Some id) room has = record { few = λ h. (let l
     by requests.Terminate has = inl refl
     by requests.Leave has = inl refl
 
-take_opened : (l : Sizes) (r : Readings) (task seq : ℕ) (request : Request) (effects : List Effect) → Fits l r task request effects → Opens l r (opened_by task seq request (sent_id effects))
-take_opened l r task seq request effects (inl none) = subst (λ (id : Option ℕ). Opens l r (opened_by task seq request id)) (sym none) (none_opened l r)
-take_opened l r task seq request effects (inr (room, has)) = one_opened l r task seq request (sent_id effects) room has
+take_opened : (l : Sizes) (r : Readings) (task seq : ℕ) (request : Request) (effects : List Effect) → Fits l r task request effects → Opens l r (opened_by task seq request (sent_filters effects) (sent_id effects))
+take_opened l r task seq request effects (inl none) = subst (λ (id : Option ℕ). Opens l r (opened_by task seq request (sent_filters effects) id)) (sym none) (none_opened l r)
+take_opened l r task seq request effects (inr (room, has)) = one_opened l r task seq request (sent_filters effects) (sent_id effects) room has
 
 entry_opens : (s : Setup) (l : Sizes) (r : Readings) (time : ℕ) (cause : Cause) (effects : List Effect) → effects_of (row_of s l r time cause) ≡ Some effects → Opens l r (opens cause effects)
 entry_opens s l r time c.Opened effects e = none_opened l r

@@ -21,7 +21,7 @@ use Rattle.agent_journal.specs.declared.setup.Setup.{Setup}
 use Rattle.agent_journal.specs.declared.setup.Phase.{Phase}
 use Rattle.agent_journal.specs.declared.setup.Phase.TheVariants.{Down, Opening, Up, Spilled, Off}
 use Rattle.agent_journal.specs.Sound.{IsSoundEffect, IsSoundCause, IsSoundEntry}
-use Rattle.agent_journal.specs.Readings.{Pending, pending_of, has_left, opens, opened_by, sent_id, or_else, command_id, id_at, stays_open}
+use Rattle.agent_journal.specs.Readings.{Pending, pending_of, has_left, opens, opened_by, sent_filters, sent_id, or_else, command_id, id_at, stays_open}
 use Rattle.agent_journal.specs.Requests.{is_valid, is_few, is_wanted}
 use Rattle.agent_journal.specs.Setups.{is_client}
 use Rattle.std.proofs.lemmas.Bool.{and_parts}
@@ -176,7 +176,7 @@ last_low n (m ∷ ns) low all = last_low m ns all.0 all.1
 -- ---- Open commands
 
 opened_well : (s : Setup) (l : Sizes) (r : Readings) (time task seq : ℕ) (request : Request) (effects : List Effect) (id : Option ℕ) → AreWell effects → effects_of (row_of s l r time (c.Take task seq request)) ≡ Some effects → sent_id effects ≡ id
-    → AllByRecursion IsWellPending (opened_by task seq request id)
+    → AllByRecursion IsWellPending (opened_by task seq request (sent_filters effects) id)
 opened_well s l r time task seq request effects None well e is = tt
 opened_well s l r time task seq request effects (Some id) well e is =
     let some = in_time s l r time (c.Take task seq request) (has_row (row_of s l r time (c.Take task seq request)) effects e) in

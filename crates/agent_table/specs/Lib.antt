@@ -14,6 +14,7 @@ pub mod Takes
 pub mod Breaks
 pub mod Table
 pub mod Histories
+pub mod Offs
 pub mod Ties
 pub mod Awaiting
 pub mod Worked

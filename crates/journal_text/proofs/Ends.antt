@@ -22,7 +22,7 @@ use Rattle.agent_journal.specs.declared.effect.Effect.TheVariants as f
 use Rattle.agent_journal.specs.declared.setup.Setup.{Setup}
 use Rattle.agent_journal.specs.declared.setup.Phase.{Phase}
 use Rattle.agent_journal.specs.declared.setup.Phase.TheVariants.{Down, Opening, Up, Spilled, Off}
-use Rattle.agent_journal.specs.Endings.{is_off, ending_by, ending_by_packet}
+use Rattle.agent_journal.specs.Endings.{is_off, ending_by}
 use Rattle.agent_journal.specs.Readings.{Pending}
 use Rattle.agent_journal.specs.Wires.{is_opened}
 use Rattle.agent_table.specs.Arrivals.{arrived_row, arrived_in, opening_row, up_row, connack_row, first_row, resumed_row, publish_row, message_row, puback_row, pubrec_row, pubcomp_row, suback_row, unsuback_row, awaited}
@@ -310,7 +310,7 @@ leads s l past e legal = by (row s l past e.at e.cause) refl legal
         }
 
 -- Only whether it is Opening makes a difference.
-by_packet : (phase : Phase) (opened : Bool) (packet : Packet) → is_opening phase ≡ opened → ending_by_packet (cond opened Opening Up) packet ≡ ending_by_packet phase packet
+by_packet : (phase : Phase) (opened : Bool) (packet : Packet) → is_opening phase ≡ opened → ending_by (cond opened Opening Up) (c.Arrived packet) ≡ ending_by phase (c.Arrived packet)
 by_packet Down true packet e = absurd (cc e)
 by_packet Down false packet e = refl
 by_packet Opening true packet e = refl

@@ -1,6 +1,7 @@
 //! One open command.
 
 use agent_journal::Request;
+use list_types::{Seq, Text};
 use ordered_cells::Keyed;
 use std::marker::Model;
 
@@ -15,6 +16,9 @@ pub struct Pending {
     pub seq: u32,
     /// What was asked.
     pub request: Request,
+    /// The filters that its UNSUBSCRIBE names: those of an unsubscribe that no other task needed when it was
+    /// taken. Empty for any other request.
+    pub sent_filters: Seq<Text>,
 }
 
 impl Model for Pending {
@@ -22,7 +26,7 @@ impl Model for Pending {
 
     ghost Value = { Command };
 
-    ghost view = { λ p. record { id = p.id; task = p.task; seq = p.seq; request = p.request } };
+    ghost view = { λ p. record { id = p.id; task = p.task; seq = p.seq; request = p.request; sent_filters = p.sent_filters } };
 }
 
 impl Keyed for Pending {

@@ -4,6 +4,7 @@ ghost use Rattle.std.specs.Prelude.{◌<◌, ◌≤◌};
 
 use super::*;
 use agent_journal::Request;
+use list_types::Seq;
 use std::alloc::{AllocError, Global};
 use std::process::Abort;
 use std::test::Fail;
@@ -14,19 +15,20 @@ fn filled<const ACKS: usize>(alloc: Global) -> Result<PendingAcks<ACKS>, AllocEr
 {
     let mut commands = PendingAcks::new(alloc)?;
     for id in 1..2_000u16 {
-        add(&mut commands, id);
+        add(alloc, &mut commands, id);
     }
     Ok(commands)
 }
 
 /// Adds a command where there is room, and none of its identifier.
-fn add<const ACKS: usize>(commands: &mut PendingAcks<ACKS>, id: u16) {
+fn add<const ACKS: usize>(alloc: Global, commands: &mut PendingAcks<ACKS>, id: u16) {
     if !commands.is_full() && !commands.has(id) {
         commands.add(Pending {
             id,
             task: 3,
             seq: u32::from(id) * 2,
             request: Request::Ping,
+            sent_filters: Seq::new(alloc),
         });
     }
 }
@@ -45,7 +47,7 @@ fn id_of(command: Option<&Pending>) -> u16 {
 }
 
 /// Each call, in commands that are as many as there is room for.
-fn each_call<const ACKS: usize>(rt: &impl Abort, commands: &mut PendingAcks<ACKS>) {
+fn each_call<const ACKS: usize>(rt: &impl Abort, alloc: Global, commands: &mut PendingAcks<ACKS>) {
     assert_eq!(rt;
         (commands.len(), commands.is_full(), commands.is_empty()),
         (ACKS, true, false)
@@ -73,7 +75,7 @@ fn each_call<const ACKS: usize>(rt: &impl Abort, commands: &mut PendingAcks<ACKS
     let taken = commands.take(1);
     assert_eq!(rt; id_of(taken.as_ref()), 1);
     assert!(rt; commands.take(1).is_none());
-    add(commands, 40_001);
+    add(alloc, commands, 40_001);
     assert_eq!(rt;
         [id_at(commands, 0), id_at(commands, ACKS - 1)],
         [2, 40_001]
@@ -83,14 +85,14 @@ fn each_call<const ACKS: usize>(rt: &impl Abort, commands: &mut PendingAcks<ACKS
 #[test]
 fn each_call_at_2(rt: HostRuntime) -> Result<(), Fail> {
     let mut commands = filled::<2>(rt.alloc())?;
-    each_call(&rt, &mut commands);
+    each_call(&rt, rt.alloc(), &mut commands);
     Ok(())
 }
 
 #[test]
 fn each_call_at_1024(rt: HostRuntime) -> Result<(), Fail> {
     let mut commands = filled::<1024>(rt.alloc())?;
-    each_call(&rt, &mut commands);
+    each_call(&rt, rt.alloc(), &mut commands);
     Ok(())
 }
 

@@ -45,6 +45,7 @@ pub fn replay<const ACKS: usize, const IN: usize, const ROUTES: usize>(
 ) -> Result<Replayed, NoMemory>
     requires sizes { (0 < ACKS) × (ACKS ≤ 1024) × (0 < IN) × (IN ≤ 1024) × (0 < ROUTES) × (ROUTES ≤ 1024) }
     requires client { is_client setup.client ≡ true }
+    requires reopen { setup.reopen ≤ 4294967294 }
     requires one_task { setup.tasks ≡ 1 }
     requires lines { AllByRecursion IsValidLine script.now.lines }
     requires few { length script.now.lines ≤ 4000000000 }

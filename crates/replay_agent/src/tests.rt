@@ -38,7 +38,7 @@ fn journal(alloc: Global, options: Options, lines: &str, tape: &str) -> Result<V
     let mut text = String::from_str(alloc, "tasks 1\n")?;
     text.push_str(lines)?;
     let (script, _) = read_script(alloc, text.as_bytes())?;
-    if script.tasks != 1 || script.lines.len() > 1_000 {
+    if script.tasks != 1 || script.lines.len() > 1_000 || options.reopen > 1_000 {
         return Err(Fail::new("a test's script is short, and of one task"));
     }
     let setup = Setup {

@@ -41,6 +41,7 @@ fn open<const ACKS: usize, const IN: usize>(
                 topic,
                 payload,
             },
+            sent_filters: Seq::new(alloc),
         });
     }
     Ok(())
@@ -94,6 +95,7 @@ fn releases_come_first_in_the_order_of_their_pubrecs(rt: HostRuntime) -> Result<
             request: Request::Subscribe {
                 asks: Seq::new(alloc),
             },
+            sent_filters: Seq::new(alloc),
         });
     }
     for id in [8, 4, 8] {

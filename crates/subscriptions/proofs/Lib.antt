@@ -2,11 +2,11 @@ mod Bools
 mod Lists
 mod Leasts
 mod Subacks
-mod Sets
+pub mod Sets
 mod Reached
 mod Counts
 mod Additions
 mod Keeping
 mod Renewals
 mod Grants
-mod Orders
+pub mod Orders

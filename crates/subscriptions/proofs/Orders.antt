@@ -18,14 +18,14 @@ use Rattle.agent_table.specs.Filters.{comes_before, sorted_with, sorted}
 use Rattle.subscriptions.specs.Routing.{Granted, Routing, qos_in, ask_in, renewable}
 use Rattle.subscriptions.proofs.Bools.{same_tests}
 
-bytes_turned : (xs ys : List ℕ) → bytes_eq xs ys ≡ bytes_eq ys xs
+pub bytes_turned : (xs ys : List ℕ) → bytes_eq xs ys ≡ bytes_eq ys xs
 bytes_turned xs ys =
     same_tests (bytes_eq xs ys) (bytes_eq ys xs) (λ e. (bytes_eq-Decides ys xs).1 (sym ((bytes_eq-Decides xs ys).0 e))) (λ e. (bytes_eq-Decides xs ys).1 (sym ((bytes_eq-Decides ys xs).0 e)))
 
 below_differs : (x y : ℕ) → nat_lt x y ≡ true → (x == y) ≡ false
 below_differs x y e = grind (arith, nat_tests)
 
-before_is : (xs ys : List ℕ) → is_lt (slice_cmp nat_cmp xs ys) ≡ comes_before xs ys
+pub before_is : (xs ys : List ℕ) → is_lt (slice_cmp nat_cmp xs ys) ≡ comes_before xs ys
 before_is [] [] = refl
 before_is [] (y ∷ ys) = refl
 before_is (x ∷ xs) [] = refl

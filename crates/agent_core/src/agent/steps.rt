@@ -11,13 +11,13 @@ ghost use Rattle.agent_core.specs.Laws.{IsSound};
 ghost use Rattle.agent_core.specs.Renewing.{as_list};
 
 use super::Core;
+use crate::filters::sent_filters;
 use crate::noted::{
-    accepted_behind, breaks_behind, note_books, note_task, ping_behind, sent_behind,
-    takes_terminate,
+    accepted_behind, breaks_behind, most_accepted, note_books, note_task, ping_behind, sent_behind,
 };
 use crate::routes::ask;
 use crate::sends::{has_send, last_drawn, sends_ping, sent_id};
-use agent_journal::{Cause, Effect, Effects};
+use agent_journal::{Cause, Effect, Effects, OffBy};
 use list_types::Copied;
 use mqtt_packet::Packet;
 use pending_acks::Pending;
@@ -52,12 +52,12 @@ impl<const ACKS: usize, const IN: usize, const ROUTES: usize> Core<ACKS, IN, ROU
         );
         note_task(&mut self.takes, &mut self.left, cause);
         self.breaks = breaks_behind(self.setup.reopen, self.breaks, cause);
-        self.accepted = accepted_behind(self.accepted, cause);
+        self.accepted = accepted_behind(most_accepted(self.setup.wipe), self.accepted, cause);
         self.last_drawn = last_drawn(self.last_drawn, effects);
         self.ping = ping_behind(self.ping, at, cause, sends_ping(effects));
         self.just_sent = has_send(effects);
         self.last_sent = sent_behind(self.last_sent, at, cause, self.just_sent);
-        self.terminated = takes_terminate(cause) && self.just_sent || self.terminated;
+        self.off = OffBy::behind(self.phase, row.phase, cause, self.off);
         self.last_time = at;
         self.phase = row.phase;
         Ok(row.effects)
@@ -77,6 +77,7 @@ impl<const ACKS: usize, const IN: usize, const ROUTES: usize> Core<ACKS, IN, ROU
                 task: *task,
                 seq: *seq,
                 request: request.copy(self.alloc)?,
+                sent_filters: sent_filters(self.alloc, effects)?,
             })),
         }
     }

@@ -9,12 +9,13 @@ ghost use Rattle.agent_journal.specs.declared.effect.Effect.TheVariants as f;
 ghost use Rattle.mqtt_packet.specs.declared.packet.Packet.TheVariants as p;
 ghost use Rattle.agent_table.specs.Effects.{fresh_id};
 ghost use Rattle.agent_table.specs.Rows.{to};
+ghost use Rattle.agent_journal.specs.Offs.{is_terminated};
 ghost use Rattle.agent_core.specs.Kept.{readings_in};
 
 use super::Core;
 use crate::effects::{Ending, one, push_done, push_endings};
 use crate::row::Row;
-use agent_journal::{Effect, Effects, Outcome, Phase, Request};
+use agent_journal::{Effect, Effects, OffBy, Outcome, Phase, Request};
 use list_types::{Blob, Copied, Seq, Text};
 use mqtt_packet::{Ask, Packet, Qos};
 use std::alloc::AllocError;
@@ -251,7 +252,7 @@ impl<const ACKS: usize, const IN: usize, const ROUTES: usize> Core<ACKS, IN, ROU
     fn refusal(&self) -> Outcome
         ensures { result ≡ table.refusal (readings_in self.now) }
     {
-        if self.terminated {
+        if is_terminated(self.off) {
             Outcome::Cancelled
         } else {
             Outcome::NotConnected
@@ -288,4 +289,11 @@ fn up(effects: Effects) -> Row
         effects,
         phase: Phase::Up,
     }
+}
+
+/// Whether the agent was ended by Terminate.
+fn is_terminated(off: Option<OffBy>) -> bool
+    ensures { result ≡ is_terminated off }
+{
+    matches!(off, Some(OffBy::Terminate))
 }

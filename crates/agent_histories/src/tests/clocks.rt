@@ -1,5 +1,8 @@
 //! An agent of the greatest sizes, by its clock.
 
+ghost use Rattle.std.specs.Prelude.{◌≡◌, true, IfOk};
+ghost use Rattle.agent_journal.specs.Setups.{is_client};
+
 use super::histories::enters;
 use agent_core::{Core, Phase};
 use agent_journal::{Cause, Setup, Why};
@@ -19,7 +22,11 @@ fn agent(alloc: Global) -> Option<Large> {
     }
 }
 
-fn setup(alloc: Global) -> Result<Setup, AllocError> {
+#[tactic(auto, unfolding(agent_journal::specs::Setups::is_client))]
+fn setup(alloc: Global) -> Result<Setup, AllocError>
+    ensures reopen { IfOk result (λ setup. setup.reopen ≡ 0) }
+    ensures client { IfOk result (λ setup. is_client setup.client ≡ true) }
+{
     Ok(Setup {
         to: Text::from_str(alloc, "")?,
         client: Text::from_str(alloc, "dev")?,

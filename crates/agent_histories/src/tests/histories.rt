@@ -1,6 +1,9 @@
 //! Histories as text. A line is what happens to the agent, and the effects of that, each behind ` > `. Behind
 //! `take` stand the task, the number of the request and the request. What has no row has the effect `no row`.
 
+ghost use Rattle.std.specs.Prelude.{◌≡◌, true, IfOk};
+ghost use Rattle.agent_journal.specs.Setups.{is_client};
+
 use super::texts::{read, write_effects};
 use agent_core::Core;
 use agent_journal::{Cause, Entry, Request, Setup, Why};
@@ -20,7 +23,11 @@ pub fn agent(alloc: Global, tasks: u32, wipe: bool) -> Option<Small> {
     Core::new(alloc, setup).ok()
 }
 
-fn setup(alloc: Global, tasks: u32, wipe: bool) -> Result<Setup, AllocError> {
+#[tactic(auto, unfolding(agent_journal::specs::Setups::is_client))]
+fn setup(alloc: Global, tasks: u32, wipe: bool) -> Result<Setup, AllocError>
+    ensures reopen { IfOk result (λ setup. setup.reopen ≡ 1) }
+    ensures client { IfOk result (λ setup. is_client setup.client ≡ true) }
+{
     Ok(Setup {
         to: Text::from_str(alloc, "")?,
         client: Text::from_str(alloc, "dev")?,

@@ -14,4 +14,4 @@ start_request-requires g c =
 pub returns-clause-tied : goal.returns-clause-tied
 returns-clause-tied g c =
     subst (λ (d : Pending). IsTied (c.args.pending.now ++ d ∷ []) c.start_request.new.qos) c.command.view_is
-    (tied_opened c.args.pending.now c.args.qos.now c.requires.tied (record { id = c.command.inside.id; task = c.command.inside.task; seq = c.command.inside.seq; request = c.command.inside.request }) c.start_request.new.qos (subst (λ (d : Pending). list_any (has_id d.id) c.args.pending.now ≡ false) (sym c.command.view_is) c.requires.fresh) c.start_request.ensures)
+    (tied_opened c.args.pending.now c.args.qos.now c.requires.tied (record { id = c.command.inside.id; task = c.command.inside.task; seq = c.command.inside.seq; request = c.command.inside.request; sent_filters = c.command.inside.sent_filters }) c.start_request.new.qos (subst (λ (d : Pending). list_any (has_id d.id) c.args.pending.now ≡ false) (sym c.command.view_is) c.requires.fresh) c.start_request.ensures)

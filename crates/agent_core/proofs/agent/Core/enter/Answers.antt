@@ -1,4 +1,4 @@
-use Rattle.std.proofs.Common.{◌≡◌, ◌≤◌, ℕ, ◌++◌, length, ap, sym, ◌∙◌, subst, arith, rules}
+use Rattle.std.proofs.Common.{◌≡◌, ◌≤◌, ℕ, ◌++◌, length, refl, ap, sym, ◌∙◌, subst, arith, rules}
 use Rattle.agent_table.specs.Rows.{Row}
 use Rattle.agent_core.specs.Kept.{Kept}
 use Rattle.agent_table.specs.Deliveries.{released_behind}
@@ -77,7 +77,7 @@ invariant_of-self-2 g c =
       takes_length c.args.cause.now c.self.inside.takes.items c.note_task.new.takes.items c.self.inside.setup.tasks c.self.invariant.0 c.note_task.ensures.takes,
       left_length c.args.cause.now c.self.inside.left.items c.note_task.new.left.items c.self.inside.setup.tasks c.self.invariant.1 c.note_task.ensures.left,
       c.breaks_behind-self-inside.ensures.most,
-      c.accepted_behind-self-inside.ensures.most,
+      subst (λ (n : ℕ). c.accepted_behind-self-inside.result ≤ n) (c.most_accepted.ensures c.self.inside.setup refl) c.accepted_behind-self-inside.ensures.most,
       c.note_books.ensures.tied,
       record {
         acks_few = c.self.invariant.5.acks_few;
