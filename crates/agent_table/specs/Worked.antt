@@ -16,7 +16,7 @@ use Rattle.agent_journal.specs.declared.entry.Entry.{Entry}
 use Rattle.agent_journal.specs.declared.effect.Effect.{Effect}
 use Rattle.agent_journal.specs.declared.effect.Effect.TheVariants as f
 use Rattle.agent_journal.specs.declared.setup.Setup.{Setup}
-use Rattle.journal_text.specs.Worked as first
+use Rattle.agent_journal.specs.Worked as first
 use Rattle.agent_table.specs.Histories.{IsLegal}
 use Rattle.agent_table.specs.Sizes.{Sizes}
 

@@ -1,6 +1,7 @@
 -- The numbers of a word, tried from the lowest up.
-use Rattle.std.proofs.Common.{◌≡◌, ◌≢◌, ℕ, zero, suc, ◌+◌, ◌-◌, ◌^◌, ◌<◌, ◌≤◌, if◌then◌else◌, List, ◌∷◌, ◌++◌, length, sym, ap, subst, ◌∙◌, ⊎_elim, bit_and, length-append, eq-eqb, ne_eqb, arith}
+use Rattle.std.proofs.Common.{◌≡◌, ◌≢◌, ℕ, zero, suc, Bool, true, false, ◌+◌, ◌-◌, ◌^◌, ◌<◌, ◌≤◌, if◌then◌else◌, List, [], ◌∷◌, ◌++◌, length, sym, ap, subst, ◌∙◌, ⊎_elim, bit_and, length-append, append_assoc, refl, eq-eqb, ne_eqb, arith}
 use mir.Syntax.{w64}
+use Rattle.std.specs.Prelude.{◌==◌}
 use Rattle.std.specs.Int.{bit_at, trailing_zeros}
 use Rattle.std.proofs.lemmas.Bool.{cases_eq, cases_lt}
 use Rattle.std.proofs.lemmas.Nat.{and_le_l}
@@ -8,7 +9,7 @@ use Rattle.std.proofs.lemmas.Nat.Bits.{bit_at-trailing_zeros, bit_at-zero}
 use Rattle.command_pool.specs.declared.hand.PoolStep.{PoolStep}
 use Rattle.command_pool.specs.declared.hand.PoolStep.TheVariants as steps
 use Rattle.command_pool.specs.Kinds.{all_but, FitsPool}
-use Rattle.command_pool.specs.Takes.{misses}
+use Rattle.command_pool.specs.Takes.{misses, IsOnward, empties}
 use Rattle.command_pool.proofs.Words.{cleared_same, cleared_other}
 
 -- what is left of a word has its numbers from n on
@@ -92,3 +93,32 @@ taken_within pool seen id old new low is = omega (arith, ap length is, length-ap
 
 pub missed_within : (pool seen : ℕ) (old new : List PoolStep) → new ≡ misses seen pool ++ steps.Loaded seen ∷ old → length new ≤ length old + (1 + pool)
 missed_within pool seen old new is = omega (arith, ap length is, length-append (misses seen pool) (steps.Loaded seen ∷ old), at_most seen pool)
+
+-- ---- Over several calls
+
+-- tries that missed are no loads
+empties-misses : (word n : ℕ) (rest : List PoolStep) → empties (misses word n ++ rest) ≡ empties rest
+empties-misses word zero rest = refl
+empties-misses word (suc n) rest = by_bit (bit_at word n == 1) (empties-misses word n rest)
+  where
+    by_bit : (is : Bool) → empties (misses word n ++ rest) ≡ empties rest → empties ((if is then steps.Missed n ∷ misses word n else misses word n) ++ rest) ≡ empties rest
+    by_bit true e = e
+    by_bit false e = e
+
+some_found : (seen : ℕ) (old : List PoolStep) → seen ≢ 0 → empties (steps.Loaded seen ∷ old) ≡ empties old
+some_found seen old some = let same : 0 + empties old ≡ empties old = omega arith in ap (λ b. (if b then 1 else 0) + empties old) (ne_eqb seen 0 some) ∙ same
+
+pub empties_taken : (seen id : ℕ) (old new : List PoolStep) → seen ≢ 0 → new ≡ steps.Taken id ∷ misses seen id ++ steps.Loaded seen ∷ old → empties new ≡ empties old + 0
+empties_taken seen id old new some is = omega (arith, ap empties is, empties-misses seen id (steps.Loaded seen ∷ old), some_found seen old some)
+
+pub empties_missed : (pool seen : ℕ) (old new : List PoolStep) → seen ≢ 0 → new ≡ misses seen pool ++ steps.Loaded seen ∷ old → empties new ≡ empties old + 0
+empties_missed pool seen old new some is = omega (arith, ap empties is, empties-misses seen pool (steps.Loaded seen ∷ old), some_found seen old some)
+
+pub onward_empty : (seen : ℕ) (old new : List PoolStep) → new ≡ steps.Loaded seen ∷ old → IsOnward old new
+onward_empty seen old new is = (steps.Loaded seen ∷ [], is)
+
+pub onward_taken : (seen id : ℕ) (old new : List PoolStep) → new ≡ steps.Taken id ∷ misses seen id ++ steps.Loaded seen ∷ old → IsOnward old new
+onward_taken seen id old new is = (steps.Taken id ∷ misses seen id ++ steps.Loaded seen ∷ [], is ∙ ap (λ l. steps.Taken id ∷ l) (sym (append_assoc (misses seen id) (steps.Loaded seen ∷ []) old)))
+
+pub onward_missed : (pool seen : ℕ) (old new : List PoolStep) → new ≡ misses seen pool ++ steps.Loaded seen ∷ old → IsOnward old new
+onward_missed pool seen old new is = (misses seen pool ++ steps.Loaded seen ∷ [], is ∙ sym (append_assoc (misses seen pool) (steps.Loaded seen ∷ []) old))

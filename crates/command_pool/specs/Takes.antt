@@ -1,5 +1,5 @@
 -- The steps of a take.
-use Rattle.std.specs.Prelude.{◌≡◌, ◌≢◌, ℕ, zero, suc, List, [], ◌∷◌, ◌++◌, Result, Ok, Err, if◌then◌else◌, ◌==◌}
+use Rattle.std.specs.Prelude.{◌≡◌, ◌≢◌, ℕ, zero, suc, ◌+◌, List, [], ◌∷◌, ◌++◌, Result, Ok, Err, if◌then◌else◌, ◌==◌}
 use Rattle.std.specs.Int.{bit_at}
 use Rattle.command_pool.specs.declared.hand.PoolStep.{PoolStep}
 use Rattle.command_pool.specs.declared.hand.PoolStep.TheVariants as steps
@@ -21,3 +21,20 @@ TakeSteps pool (Ok permit) old new = (seen : ℕ) × (bit_at seen permit.id ≡ 
 TakeSteps pool (Err faults.Empty) old new = new ≡ steps.Loaded 0 ∷ old
 TakeSteps pool (Err (faults.Busy seen)) old new = (seen ≢ 0) × FitsPool pool seen
     × (new ≡ misses seen pool ++ steps.Loaded seen ∷ old)
+
+-- Over several calls. A call only puts steps in front of those that its pass had made: so what a caller counts of them
+-- before and behind its calls is of those calls.
+abbrev pub IsOnward : List PoolStep → List PoolStep → Type 0
+IsOnward old new = (made : List PoolStep) × (new ≡ made ++ old)
+
+-- how many of the steps are loads that found no number free
+abbrev pub empties : List PoolStep → ℕ
+empties [] = 0
+empties (steps.Loaded word ∷ rest) = (if word == 0 then 1 else 0) + empties rest
+empties (_ ∷ rest) = empties rest
+
+-- one such load in a take that answers Empty, and none in any other
+abbrev pub empties_in : Result Numbered TakeFault → ℕ
+empties_in (Ok permit) = 0
+empties_in (Err faults.Empty) = 1
+empties_in (Err (faults.Busy seen)) = 0

@@ -6,7 +6,7 @@ ghost use Rattle.std.specs.Int.{bit_at};
 ghost use Rattle.command_pool.specs.Kinds.{FitsPool};
 ghost use Rattle.command_pool.specs.Hands.{times, without};
 ghost use Rattle.command_pool.specs.Passes.{Holds};
-ghost use Rattle.command_pool.specs.Takes.{TakeSteps, misses};
+ghost use Rattle.command_pool.specs.Takes.{TakeSteps, IsOnward, empties, empties_in, misses};
 ghost use Rattle.command_pool.specs.declared.hand.PoolStep.TheVariants as steps;
 
 use crate::bits::{all_but, bit_of, is_set};
@@ -63,7 +63,8 @@ impl<const POOL: usize> CommandPool<POOL> {
 
     /// Takes a number: after one look at the word it reaches once for each number that was free then,
     /// from the lowest up, until it has one. `Empty` where that look found none free, `Busy` where
-    /// each that it found free was taken when this call reached for it.
+    /// each that it found free was taken when this call reached for it. Who tries again until the answer is
+    /// another than `Busy` has one more load that found none free exactly where it ends with `Empty`.
     pub fn take(&self, pass: &mut PoolPass) -> Result<Permit, TakeFault>
         requires own { pass.old.pool ≡ self.now }
         ensures pool { pass.new.pool ≡ pass.old.pool }
@@ -74,6 +75,8 @@ impl<const POOL: usize> CommandPool<POOL> {
         ensures refused { OnErr result (pass.new.held ≡ pass.old.held) }
         ensures steps { TakeSteps POOL result pass.old.steps pass.new.steps }
         ensures bound { length pass.new.steps ≤ length pass.old.steps + (1 + POOL) }
+        ensures onward { IsOnward pass.old.steps pass.new.steps }
+        ensures empties { empties pass.new.steps ≡ empties pass.old.steps + empties_in result }
     {
         let seen = self.load(pass);
         if seen == 0 {

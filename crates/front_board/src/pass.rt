@@ -1,5 +1,7 @@
 //! The pass of one who looks at a board.
 
+ghost use Rattle.std.specs.Prelude.{◌≡◌};
+
 use crate::sight::Sight;
 use atomic_table::Seat;
 use std::marker::Model;
@@ -20,4 +22,13 @@ impl Model for FrontPass {
     ghost view = { λ p. record { board = p.seat.table_id; number = p.number; loads = p.seat.me.0.loads } };
 
     ghost invariant = { λ p. (p.seat.me.1 ≡ []) × (p.seat.me.0.seen ≡ p.number) };
+}
+
+impl FrontPass {
+    /// How many entries were seen, by a look or by a mark that was learnt. It takes no memory.
+    pub fn number(&self) -> u64
+        ensures { result ≡ self.now.number }
+    {
+        self.number
+    }
 }

@@ -7,7 +7,7 @@ use Rattle.std.proofs.lemmas.List.{get_or-take, get_or-drop, length-take-le, len
 use Rattle.std.proofs.Math.Nat.{mul-le-mul_right}
 use Rattle.image_store.specs.Images.{first_payload}
 use Rattle.image_store.specs.Writing.{blocks_of}
-use Rattle.image_store.specs.Standing.{IsHeld, PutStands, FaultStands}
+use Rattle.image_store.specs.Standing.{IsHeld, PutStands, AgainStands, FaultStands}
 use Rattle.image_store.proofs.Standing.{block_low}
 
 -- ---- The first payload of an index, behind one more block
@@ -108,6 +108,22 @@ put_stands bs w bytes payload index some stands low len lost = record {
     still : (i : ℕ) → i ≢ index → get_or (set w.missing index false) i false ≡ true → first_payload i (bs ++ (index, payload) ∷ []) ≡ None
     still i apart gone =
         first_behind bs ((index, payload) ∷ []) i (stands.missing i (sym (get_or-set_other w.missing index i false false apart) ∙ gone)) ∙ others_by (index == i) payload (λ e. apart (sym (eqb-true index i e)))
+
+pub again_stands : AgainStands
+again_stands bs w bytes payload index stands there = record {
+  size = stands.size;
+  flags = stands.flags;
+  held = λ i below is. let old = stands.held i below is in record {
+    payload = old.payload;
+    first = first_kept bs ((index, payload) ∷ []) i old.payload old.first;
+    len = old.len;
+    place = old.place;
+  };
+  missing = λ i gone. first_behind bs ((index, payload) ∷ []) i (stands.missing i gone) ∙ others_by (index == i) payload (λ e. apart i gone (eqb-true index i e));
+}
+  where
+    apart : (i : ℕ) → get_or w.missing i false ≡ true → index ≡ i → ⊥
+    apart i gone e = let same : get_or w.missing i false ≡ false = ap (λ (n : ℕ). get_or w.missing n false) (sym e) ∙ there in cc
 
 pub fault_stands : FaultStands
 fault_stands bs w bytes any index some stands low len lost = record {

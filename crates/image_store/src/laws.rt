@@ -19,6 +19,11 @@ pub fn put_stands()
     ensures { standing.PutStands }
 {}
 
+/// A repeat of a block is one more of those blocks.
+pub fn again_stands()
+    ensures { standing.AgainStands }
+{}
+
 /// A fault of the bank at a block that is missing changes nothing of what the writer stands for.
 pub fn fault_stands()
     ensures { standing.FaultStands }

@@ -1,6 +1,6 @@
 //! A bank over memory.
 
-ghost use Rattle.std.specs.Prelude.{◌≡◌, ℕ, ◌+◌, ◌↔◌, List, length, true, false, Contains, IsSome, IsErrOf, OnOk, OnErr, Some, None, if◌then◌else◌};
+ghost use Rattle.std.specs.Prelude.{◌≡◌, ℕ, ◌+◌, ◌↔◌, List, length, true, false, Contains, IsSome, IsErrOf, OnOk, OnErr, IfErr, Some, None, if◌then◌else◌};
 ghost use Rattle.std.specs.Option.{option_copied, option_map};
 ghost use Rattle.std.specs.List.{slice_range};
 ghost use Rattle.agent_link.specs.Counts.{Counted, raised};
@@ -117,6 +117,7 @@ impl Bank for MemoryBank {
         ensures cause { Counted (IsErrOf result Fault.Failed) self.old.plan.faults self.new.plan.faults }
         ensures failed { IsErrOf result Fault.Failed ↔ Contains self.old.plan.fails self.old.plan.call }
         ensures calls { (self.new.plan.fails ≡ self.old.plan.fails) × (self.new.plan.call ≡ raised self.old.plan.call) }
+        ensures memory { IfErr result (λ e. e ≡ Fault.Failed) }
         ensures kept { OnErr result (contents_of self.new ≡ contents_of self.old) }
     {
         if self.plan.fails() {
@@ -138,6 +139,7 @@ impl Bank for MemoryBank {
         ensures cause { Counted (IsErrOf result Fault.Failed) self.old.plan.faults self.new.plan.faults }
         ensures failed { IsErrOf result Fault.Failed ↔ Contains self.old.plan.fails self.old.plan.call }
         ensures calls { (self.new.plan.fails ≡ self.old.plan.fails) × (self.new.plan.call ≡ raised self.old.plan.call) }
+        ensures memory { IfErr result (λ e. e ≡ Fault.Failed) }
     {
         if self.plan.fails() {
             return Err(Fault::Failed);
@@ -156,6 +158,7 @@ impl Bank for MemoryBank {
         ensures cause { Counted (IsErrOf result Fault.Failed) self.old.plan.faults self.new.plan.faults }
         ensures failed { IsErrOf result Fault.Failed ↔ Contains self.old.plan.fails self.old.plan.call }
         ensures calls { (self.new.plan.fails ≡ self.old.plan.fails) × (self.new.plan.call ≡ raised self.old.plan.call) }
+        ensures memory { IfErr result (λ e. e ≡ Fault.Failed) }
     {
         if self.plan.fails() {
             return Err(Fault::Failed);
@@ -171,6 +174,7 @@ impl Bank for MemoryBank {
         ensures cause { Counted (IsErrOf result Fault.Failed) self.old.plan.faults self.new.plan.faults }
         ensures failed { IsErrOf result Fault.Failed ↔ Contains self.old.plan.fails self.old.plan.call }
         ensures calls { (self.new.plan.fails ≡ self.old.plan.fails) × (self.new.plan.call ≡ raised self.old.plan.call) }
+        ensures memory { IfErr result (λ e. e ≡ Fault.Failed) }
     {
         if self.plan.fails() {
             return Err(Fault::Failed);
@@ -186,6 +190,7 @@ impl Bank for MemoryBank {
         ensures cause { Counted (IsErrOf result Fault.Failed) self.old.plan.faults self.new.plan.faults }
         ensures failed { IsErrOf result Fault.Failed ↔ Contains self.old.plan.fails self.old.plan.call }
         ensures calls { (self.new.plan.fails ≡ self.old.plan.fails) × (self.new.plan.call ≡ raised self.old.plan.call) }
+        ensures memory { IfErr result (λ e. e ≡ Fault.Failed) }
     {
         if self.plan.fails() {
             return Err(Fault::Failed);
@@ -201,6 +206,7 @@ impl Bank for MemoryBank {
         ensures cause { Counted (IsErrOf result Fault.Failed) self.old.plan.faults self.new.plan.faults }
         ensures failed { IsErrOf result Fault.Failed ↔ Contains self.old.plan.fails self.old.plan.call }
         ensures calls { (self.new.plan.fails ≡ self.old.plan.fails) × (self.new.plan.call ≡ raised self.old.plan.call) }
+        ensures memory { IfErr result (λ e. e ≡ Fault.Failed) }
     {
         if self.plan.fails() {
             return Err(Fault::Failed);

@@ -1,12 +1,13 @@
 //! A writer of a new image, block by block.
 
-ghost use Rattle.std.specs.Prelude.{◌≡◌, ℕ, ◌↔◌, ◌+◌, ◌*◌, ◌<◌, ◌≤◌, List, length, take, replicate, get_or, true, false, min, Some, None, IsTrue, IsErrOf, IfOk, IfErr, OnOk, OnErr, Ok, Err};
+ghost use Rattle.std.specs.Prelude.{◌≡◌, ℕ, ◌↔◌, ◌+◌, ◌*◌, ◌<◌, ◌≤◌, List, [], length, take, replicate, get_or, true, false, min, Some, None, IsTrue, IsErrOf, IfOk, IfErr, OnOk, OnErr, Ok, Err};
 ghost use Rattle.std.specs.declared.option.Option.{Option};
 ghost use Rattle.agent_link.specs.Counts.{Counted};
 ghost use Rattle.sha2.specs.Sha256.{sha256};
 ghost use Rattle.stream_blocks.specs.Sets.{count, first, HasNone};
 ghost use Rattle.image_store.specs.Banks.{size_of, is_testing, fresh_of, after_create, created};
-ghost use Rattle.image_store.specs.Images.{blocks_in, len_of};
+ghost use Rattle.image_store.specs.Images.{blocks_in, len_of, image};
+ghost use Rattle.image_store.specs.Standing.{IsOf, put_behind};
 ghost use Rattle.image_store.specs.Writing.{checked, IsWriting, after_put, Placed, missing_of, IsJudged, after_verdict};
 
 use crate::answers::{Put, PutFault, Verdict};
@@ -58,6 +59,7 @@ impl Writer {
         requires size { (0 < size) × (size ≤ 16777216) }
         requires block { (256 ≤ block) × (block ≤ 65536) }
         ensures writer { IfOk result (λ w. w ≡ record { file = file; size = size; block = block; digest = «digest»; missing = replicate (blocks_in size block) true }) }
+        ensures stands { IfOk result (λ w. IsOf [] w (B.contents bank.new)) }
         ensures shape { OnOk result (B.shape bank.new ≡ after_create (Ok tt) size (B.shape bank.old)) }
         ensures contents { OnOk result (B.contents bank.new ≡ created (Ok tt) size (B.contents bank.old)) }
         ensures same { OnErr result ((B.shape bank.new ≡ B.shape bank.old) × (B.contents bank.new ≡ B.contents bank.old)) }
@@ -114,11 +116,35 @@ impl Writer {
         ensures again { IfOk (checked self.old file index (length payload.now)) (λ i. get_or self.old.missing i false ≡ false → result ≡ Ok Put.Again) }
         ensures taken { IfOk (checked self.old file index (length payload.now)) (λ i. get_or self.old.missing i false ≡ true → IsWriting result) }
         ensures writer { self.new ≡ after_put result index self.old }
+        ensures stands { (bs : List (ℕ × List ℕ)) → IsOf bs self.old (B.contents bank.old) → IsOf (put_behind bs result index payload.now) self.new (B.contents bank.new) }
         ensures shape { B.shape bank.new ≡ B.shape bank.old }
         ensures contents { Placed result (index * self.old.block) payload.now (B.contents bank.old) (B.contents bank.new) }
         ensures cause { Counted (IsErrOf result PutFault.Bank) (B.faults bank.old) (B.faults bank.new) }
     {
         let index = self.checked(file, index, payload.len())?;
+        self.put_checked(bank, index, payload)
+    }
+
+    /// Writes a block of the job, unless it is there.
+    fn put_checked<B: Bank>(
+        &mut self,
+        bank: &mut B,
+        index: u32,
+        payload: &[u8],
+    ) -> Result<Put, PutFault>
+        requires made { size_of (B.shape bank.old) ≡ Some self.old.size }
+        requires idle { is_testing (B.shape bank.old) ≡ true → HasNone self.old.missing }
+        requires low { index < blocks_in self.old.size self.old.block }
+        requires whole { length payload.now ≡ len_of self.old.size self.old.block index }
+        requires inside { index * self.old.block + length payload.now ≤ self.old.size }
+        ensures again { get_or self.old.missing index false ≡ false → result ≡ Ok Put.Again }
+        ensures taken { get_or self.old.missing index false ≡ true → IsWriting result }
+        ensures writer { self.new ≡ after_put result index self.old }
+        ensures stands { (bs : List (ℕ × List ℕ)) → IsOf bs self.old (B.contents bank.old) → IsOf (put_behind bs result index payload.now) self.new (B.contents bank.new) }
+        ensures shape { B.shape bank.new ≡ B.shape bank.old }
+        ensures contents { Placed result (index * self.old.block) payload.now (B.contents bank.old) (B.contents bank.new) }
+        ensures cause { Counted (IsErrOf result PutFault.Bank) (B.faults bank.old) (B.faults bank.new) }
+    {
         if !self.missing.is_missing(index) {
             return Ok(Put::Again);
         }
@@ -136,6 +162,8 @@ impl Writer {
         ensures missing { IfOk result (λ v. missing_of v ≡ first self.old.missing) }
         ensures judged { IfOk result (λ v. (bytes : List ℕ) → fresh_of (B.contents bank.old) ≡ Some bytes → IsJudged v self.old.digest (sha256 bytes)) }
         ensures wanted { IfOk result (λ v. (found : List ℕ) × IsJudged v self.old.digest found) }
+        ensures whole { IfOk result (λ v. missing_of v ≡ None → (bs : List (ℕ × List ℕ)) (bytes : List ℕ) → IsOf bs self.old (B.contents bank.old)
+            → fresh_of (B.contents bank.new) ≡ Some bytes → image bs self.old.size self.old.block ≡ Some bytes) }
         ensures writer { self.new ≡ self.old }
         ensures shape { B.shape bank.new ≡ after_verdict result (B.shape bank.old) }
         ensures contents { B.contents bank.new ≡ B.contents bank.old }
@@ -181,6 +209,7 @@ impl Writer {
     fn checked(&self, file: u64, index: u64, len: usize) -> Result<u32, PutFault>
         ensures value { result ≡ checked self.now file index len }
         ensures index { IfOk result (λ i. (i ≡ index) × (i < length self.now.missing)) }
+        ensures whole { IfOk result (λ i. len ≡ len_of self.now.size self.now.block i) }
         ensures inside { IfOk result (λ i. i * self.now.block + len ≤ self.now.size) }
     {
         if file != self.file as u64 {

@@ -5,7 +5,7 @@ use Rattle.std.specs.List.{list_all, AllByRecursion}
 use Rattle.std.proofs.lemmas.Bool.{and_parts, ltb-true}
 use Rattle.agent_journal.specs.Sound.{IsSoundEntry}
 use Rattle.agent_journal.specs.Setups as setups
-use Rattle.journal_text.specs.Worked.{setup, journal}
+use Rattle.agent_journal.specs.Worked.{setup, journal}
 use Rattle.journal_text.proofs.Printed.{example_is_printed}
 use Rattle.agent_table.specs.Worked.{usual}
 use Rattle.agent_table.proofs.SoundPasts.{packets_are_sound}

@@ -6,7 +6,7 @@ use Rattle.agent_journal.specs.declared.entry.Entry.{Entry}
 use Rattle.agent_journal.specs.declared.setup.Setup.{Setup}
 use Rattle.agent_journal.specs.Sound.{IsSoundEntry}
 use Rattle.journal_text.specs.Texts.{journal_text}
-use Rattle.journal_text.specs.Worked.{journal}
+use Rattle.agent_journal.specs.Worked.{journal}
 use Rattle.journal_text.specs.Printed.{text}
 use Rattle.agent_table.specs.Histories.{IsLegalPast}
 use Rattle.agent_table.specs.Sizes.{Sizes}

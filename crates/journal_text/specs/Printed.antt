@@ -1,6 +1,6 @@
 -- The worked example, printed.
 use Rattle.std.specs.Prelude.{◌≡◌, ℕ, List, codes}
-use Rattle.journal_text.specs.Worked.{journal}
+use Rattle.agent_journal.specs.Worked.{journal}
 use Rattle.journal_text.specs.Texts.{journal_text}
 
 abbrev pub text : List ℕ

@@ -119,7 +119,7 @@ fn connect_with(
 fn is_allowed(user: &Option<Text>, password: &Option<Blob>) -> bool
     ensures { result ≡ is_allowed user.now password.now }
 {
-    user.is_some() || !password.is_some()
+    user.is_some() || password.is_none()
 }
 
 /// The will, where it is flagged (sections 3.1.2.5 to 3.1.2.7).
@@ -169,21 +169,16 @@ fn password_for(alloc: Global, flags: u8, bytes: &[u8]) -> Result<(Option<Blob>,
 fn connack_of(body: &[u8]) -> Result<Packet, Refusal>
     ensures { Gives (λ packet. packet) result (connack_of body.now) }
 {
-    match body {
-        [] => Err(Refusal::Bad),
-        [_] => Err(Refusal::Bad),
-        [flags, code] => {
-            if *flags <= 1 && *code <= 5 && (*code == 0 || *flags == 0) {
-                Ok(Packet::ConnAck {
-                    present: *flags == 1,
-                    code: *code,
-                })
-            } else {
-                Err(Refusal::Bad)
-            }
-        }
-        [_, _, _, ..] => Err(Refusal::Bad),
+    let [flags, code] = body else {
+        return Err(Refusal::Bad);
+    };
+    if *flags > 1 || *code > 5 || (*code != 0 && *flags != 0) {
+        return Err(Refusal::Bad);
     }
+    Ok(Packet::ConnAck {
+        present: *flags == 1,
+        code: *code,
+    })
 }
 
 /// PUBLISH (section 3.3).

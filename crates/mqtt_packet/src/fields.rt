@@ -27,11 +27,10 @@ pub(crate) fn number_at(bytes: &[u8]) -> Result<(u16, &[u8]), Refusal>
     ensures value { Gives (λ x. (x.0, x.1.now)) result (number_at bytes.now) }
     ensures shorter { IfOk result (λ x. length x.1.now < length bytes.now) }
 {
-    match bytes {
-        [] => Err(Refusal::Bad),
-        [_] => Err(Refusal::Bad),
-        [high, low, rest @ ..] => Ok((u16::from_be_bytes([*high, *low]), rest)),
-    }
+    let [high, low, rest @ ..] = bytes else {
+        return Err(Refusal::Bad);
+    };
+    Ok((u16::from_be_bytes([*high, *low]), rest))
 }
 
 /// Bytes behind their length.
@@ -42,11 +41,7 @@ fn data_at(bytes: &[u8]) -> Result<(&[u8], &[u8]), Refusal>
     ensures shorter { IfOk result (λ x. length x.1.now < length bytes.now) }
 {
     let (len, rest) = number_at(bytes)?;
-    let len = len as usize;
-    if rest.len() < len {
-        return Err(Refusal::Bad);
-    }
-    Ok(rest.split_at(len))
+    rest.split_at_checked(len as usize).ok_or(Refusal::Bad)
 }
 
 /// Binary data (section 3.1.3.3).

@@ -1,6 +1,6 @@
 //! The bytes of a packet.
 
-ghost use Rattle.std.specs.Prelude.{◌≡◌, ℕ, List, ◌+◌, ◌*◌, ◌%◌, ◌^◌, ◌<◌, ◌≤◌, ◌↔◌, ◌∷◌, [], ◌++◌, length, take, true, IsErr, IfOk, IfErr, OnErr};
+ghost use Rattle.std.specs.Prelude.{◌≡◌, ℕ, List, ◌+◌, ◌*◌, ◌%◌, ◌^◌, ◌<◌, ◌≤◌, ◌↔◌, ◌∷◌, [], ◌++◌, length, take, drop, true, IsErr, IfOk, IfErr, OnErr};
 ghost use Rattle.std.specs.List.{list_all, flat_map};
 ghost use Rattle.mqtt_packet.specs.Flags.{bit, level};
 ghost use Rattle.mqtt_packet.specs.Grammar.{Spells};
@@ -32,13 +32,17 @@ pub fn spelled_len(packet: &Packet) -> usize
     len_within(packet)
 }
 
-/// Writes a packet into the front of `out`, and answers how many bytes it has. Where `out` is
-/// shorter than that, it stays as it was. What stands behind the packet may change. It takes no memory.
+/// Writes a packet into the front of `out`, and answers how many bytes it has. What stands behind it stays.
+/// It takes no memory.
+///
+/// # Errors
+/// [`TooSmall`] exactly where `out` is shorter than the packet; `out` is then unchanged.
 pub fn encode(packet: &Packet, out: &mut [u8]) -> Result<usize, TooSmall>
     requires { spelling.is_sound packet.now ≡ true }
     ensures count { IfOk result (λ n. n ≡ length (spelling.spelling packet.now)) }
     ensures spelling { IfOk result (λ n. take n out.new ≡ spelling.spelling packet.now) }
     ensures spelled { IfOk result (λ n. Spells packet.now (take n out.new)) }
+    ensures back { IfOk result (λ n. drop n out.new ≡ drop n out.old) }
     ensures too_small { IsErr result ↔ (length out.old < length (spelling.spelling packet.now)) }
     ensures needed { IfErr result (λ e. e.needed ≡ length (spelling.spelling packet.now)) }
     ensures same { OnErr result (out.new ≡ out.old) }
@@ -49,7 +53,7 @@ pub fn encode(packet: &Packet, out: &mut [u8]) -> Result<usize, TooSmall>
     if out.len() < needed {
         return Err(TooSmall { needed });
     }
-    Ok(put_packet(out, packet))
+    Ok(put_packet(&mut out[..needed], packet))
 }
 
 fn put_packet(out: &mut [u8], packet: &Packet) -> usize

@@ -1,6 +1,6 @@
 //! The packets of a stream that comes in pieces.
 
-ghost use Rattle.std.specs.Prelude.{◌≡◌, ◌≤◌, ◌<◌, ◌++◌, ℕ, List, [], length, drop, None, Ok, IsOk, IfOk, IfSome, IfErr, OnOk, OnErr};
+ghost use Rattle.std.specs.Prelude.{◌≡◌, ◌≤◌, ◌<◌, ◌*◌, ◌++◌, ℕ, List, [], length, drop, None, Ok, IsOk, IfOk, IfSome, IfErr, OnOk, OnErr};
 ghost use Rattle.mqtt_packet.specs.declared.packet.Packet.{Packet};
 ghost use Rattle.mqtt_packet.specs.Splitting.{StandsFor, Tells, handed_with, told, IsKept, IsShortAt};
 ghost use Rattle.mqtt_packet.specs.Steps.{next_of, fed_to};
@@ -25,11 +25,11 @@ pub enum Next {
 }
 
 /// Takes a stream of bytes in pieces, and hands out its packets in order. Where the pieces are cut
-/// makes no difference.
+/// makes no difference. It keeps at most twice as many bytes as it holds back: [`Splitter::kept`].
 #[derive(Debug, Drop)]
 pub struct Splitter {
     alloc: Global,
-    /// Bytes that were fed; those before `start` are handed out.
+    /// Bytes that were fed; those before `start` are handed out. They are half of it at most.
     buffer: Vec<u8>,
     start: usize,
     /// The offset of `start` in the stream.
@@ -38,14 +38,14 @@ pub struct Splitter {
 }
 
 impl Model for Splitter {
-    ghost use Rattle.std.specs.Prelude.{◌≤◌, length, drop};
+    ghost use Rattle.std.specs.Prelude.{◌*◌, ◌≤◌, length, drop};
     ghost use Rattle.mqtt_packet.specs.Splitting.{Kept};
 
     ghost Value = { Kept };
 
     ghost view = { λ s. record { rest = drop s.start s.buffer.items; at = s.at; verdict = s.verdict } };
 
-    ghost invariant = { λ s. s.start ≤ length s.buffer.items };
+    ghost invariant = { λ s. 2 * s.start ≤ length s.buffer.items };
 }
 
 impl Splitter {
@@ -83,7 +83,7 @@ impl Splitter {
         if self.verdict.is_some() {
             return Ok(());
         }
-        append(&mut self.buffer, &mut self.start, piece)
+        self.buffer.extend_from_slice(piece)
     }
 
     /// The next packet of the stream, or why there is none yet or ever. Where memory runs out,
@@ -113,6 +113,7 @@ impl Splitter {
         match front_of(self.alloc, rest)? {
             Front::Packet(packet, size) => {
                 self.start += size;
+                compact(&mut self.buffer, &mut self.start);
                 self.at = self.at.saturating_add(size as u64);
                 Ok(Next::Packet(packet))
             }
@@ -130,6 +131,15 @@ impl Splitter {
     {
         self.buffer.len() - self.start
     }
+
+    /// How many bytes there are in memory: those that are held, and of those handed out at most as many.
+    /// It takes no memory.
+    pub fn kept(&self) -> usize
+        ensures least { length self.now.rest ≤ result }
+        ensures most { result ≤ 2 * length self.now.rest }
+    {
+        self.buffer.len()
+    }
 }
 
 fn told(at: u64, verdict: Verdict) -> Next
@@ -141,26 +151,15 @@ fn told(at: u64, verdict: Verdict) -> Next
     }
 }
 
-/// Adds a piece behind the bytes. What stands before `start` may go.
-fn append(buffer: &mut Vec<u8>, start: &mut usize, piece: &[u8]) -> Result<(), AllocError>
-    requires { start.old ≤ length buffer.old.items }
-    ensures within { start.new ≤ length buffer.new.items }
-    ensures ok { OnOk result (drop start.new buffer.new.items ≡ drop start.old buffer.old.items ++ piece.now) }
-    ensures err { OnErr result (drop start.new buffer.new.items ≡ drop start.old buffer.old.items) }
-{
-    compact(buffer, start);
-    buffer.extend_from_slice(piece)
-}
-
-/// Drops the bytes before `start` once they are as many as those behind it. So each byte that was
+/// Drops the bytes before `start` once they are more than those behind it. So each byte that was
 /// handed out is paid for by moving one at most.
 fn compact(buffer: &mut Vec<u8>, start: &mut usize)
     requires { start.old ≤ length buffer.old.items }
-    ensures within { start.new ≤ length buffer.new.items }
+    ensures half { 2 * start.new ≤ length buffer.new.items }
     ensures same { drop start.new buffer.new.items ≡ drop start.old buffer.old.items }
 {
     let end = buffer.len();
-    if *start < end - *start {
+    if *start <= end - *start {
         return;
     }
     buffer.copy_within(*start..end, 0);

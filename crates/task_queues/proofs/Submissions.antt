@@ -4,6 +4,7 @@ use Rattle.std.proofs.lemmas.List.Elements.{filter-append}
 use Rattle.std.proofs.lemmas.List.Folds.{list_any-append}
 use Rattle.agent_journal.specs.Readings.{is_leave}
 use Rattle.task_queues.specs.declared.submission.Submission.{Submission}
+use Rattle.std.specs.List.{AllByRecursion}
 use Rattle.task_queues.specs.Submissions.{task_of, request_of, of_task, has_leave, MayFollow, IsInTurn}
 
 pub of_task-own : (k : ℕ) (s : Submission) (rest : List Submission) → task_of s ≡ k → of_task k (s ∷ rest) ≡ s ∷ of_task k rest
@@ -53,3 +54,7 @@ in_turn_none before s after e = no_member_of_none before after s (MayFollow befo
 pub in_turn_snoc : (sent : List Submission) (x : Submission) → IsInTurn sent → MayFollow sent x → IsInTurn (sent ++ x ∷ [])
 in_turn_snoc sent x turn may before s after e = ⊎_elim (λ t. subst (λ b. MayFollow b s) (sym t.0) (subst (MayFollow sent) (sym t.1) may)) (λ t. turn before s t.0 t.1)
     (cut sent before after x s e)
+
+pub all_snoc : {X : Type 0} (P : X → Type 0) (xs : List X) (x : X) → AllByRecursion P xs → P x → AllByRecursion P (xs ++ x ∷ [])
+all_snoc P [] x h is = (is, tt)
+all_snoc P (y ∷ ys) x h is = (h.0, all_snoc P ys x h.1 is)

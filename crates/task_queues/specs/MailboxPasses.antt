@@ -1,5 +1,5 @@
 -- The passes of a mailbox as contracts see them, each with the name of its mailbox.
-use Rattle.std.specs.Prelude.{ℕ, List, [], Option, None}
+use Rattle.std.specs.Prelude.{◌≡◌, ℕ, List, [], ◌++◌, Option, None, length}
 use Rattle.atomic_table.specs.Seated.{TableId}
 use Rattle.crossbeam_queue.specs.Fifo.{Held}
 use Rattle.task_queues.specs.declared.note.Note.{Note}
@@ -28,8 +28,14 @@ fresh_getter mailbox = record { mailbox = mailbox; got = []; joined = None; empt
 
 -- What a look tells that found this many notes: at a moment the rule held of these and of all views, this pass's among
 -- them.
-abbrev pub WasFull : ℕ → Putting → Type 0
-WasFull size p = Held size (Moment IsHandedOver (putter p.put p.fulls))
+abbrev pub WasFull : TableId → ℕ → Putting → Type 0
+WasFull board size p = Held size (Moment (IsHandedOver board) (putter p.put p.fulls))
 
-abbrev pub WasEmpty : Getting → Type 0
-WasEmpty p = Held 0 (Moment IsHandedOver (getter p.got p.joined p.empties))
+abbrev pub WasEmpty : TableId → Getting → Type 0
+WasEmpty board p = Held 0 (Moment (IsHandedOver board) (getter p.got p.joined p.empties))
+
+-- At a moment this many notes were held, which are what is yet to be got of what was put.
+pub record Holds (p : Putting) (g : Getting) (count : ℕ) : Type 0 where
+  pub items : List Note
+  pub counted : length items ≡ count
+  pub in_order : p.put ≡ g.got ++ items

@@ -1,9 +1,10 @@
 -- The passes of a queue as contracts see them, each with the name of its queue.
-use Rattle.std.specs.Prelude.{ℕ, List, [], map}
+use Rattle.std.specs.Prelude.{◌≡◌, ℕ, List, [], ◌++◌, map, length}
 use Rattle.std.specs.List.{range_with_len}
 use Rattle.atomic_table.specs.Seated.{TableId}
 use Rattle.crossbeam_queue.specs.Fifo.{Held}
 use Rattle.task_queues.specs.declared.submission.Submission.{Submission}
+use Rattle.task_queues.specs.Submissions.{of_task}
 use Rattle.task_queues.specs.Moments.{Moment}
 use Rattle.task_queues.specs.Roles.{sender, receiver}
 use Rattle.task_queues.specs.QueueRule.{IsInOrder}
@@ -36,8 +37,15 @@ fresh_receiver queue senders = record { queue = queue; senders = senders; taken 
 
 -- What a look tells that found this many submissions: at a moment the rule held of these and of all views, this pass's
 -- among them.
-abbrev pub WasFull : ℕ → Sending → Type 0
-WasFull size p = Held size (Moment IsInOrder (sender p.number p.sent p.fulls))
+abbrev pub WasFull : TableId → ℕ → Sending → Type 0
+WasFull board size p = Held size (Moment (IsInOrder board) (sender p.number p.sent p.fulls))
 
-abbrev pub WasEmpty : Receiving → Type 0
-WasEmpty p = Held 0 (Moment IsInOrder (receiver p.taken p.senders p.joined p.empties))
+abbrev pub WasEmpty : TableId → Receiving → Type 0
+WasEmpty board p = Held 0 (Moment (IsInOrder board) (receiver p.taken p.senders p.joined p.empties))
+
+-- At a moment this many submissions were held, and those of this sender among them are what the receiver has yet to take
+-- of what it sent.
+pub record HoldsOf (s : Sending) (r : Receiving) (count : ℕ) : Type 0 where
+  pub items : List Submission
+  pub counted : length items ≡ count
+  pub in_order : s.sent ≡ of_task s.number r.taken ++ of_task s.number items

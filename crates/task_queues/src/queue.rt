@@ -2,15 +2,20 @@
 
 ghost use Rattle.std.specs.Prelude.{◌≡◌, ◌<◌, ◌≤◌, ◌+◌, [], ◌∷◌, ◌++◌, IfOk, IfErr, OnOk, IfSome, IfNone};
 ghost use Rattle.task_queues.specs.Submissions.{task_of, of_task, MayFollow, IsAllTaken};
-ghost use Rattle.task_queues.specs.QueuePasses.{fresh_sender, fresh_senders, fresh_receiver, WasFull, WasEmpty};
+ghost use Rattle.task_queues.specs.Fronts.{HasFront};
+ghost use Rattle.task_queues.specs.QueuePasses.{fresh_sender, fresh_senders, fresh_receiver, WasFull, WasEmpty, HoldsOf};
 
 use crate::pass::{RecvPass, SendPass};
-use crate::queue_rule::{Hire, InOrder, Miss, Release, Sent, Taken};
+use crate::queue_rule::{
+    Empty, Full, Hire, InOrder, Look, Meet, Part, Release, Sent, Spare, Taken,
+};
 use crate::role::Role;
 use crate::submission::Submission;
 use crossbeam_queue::RuledArrayQueue;
+use front_board::Named;
 use std::alloc::{AllocError, Global};
 use std::marker::Model;
+use std::mem;
 use std::sync::Wait;
 
 /// A queue of at most QUEUE submissions, 1 to 1,024, from up to eight senders to one receiver. What the
@@ -18,11 +23,11 @@ use std::sync::Wait;
 /// `each_queue_is_lawful`. Each call may wait for a thread that is at its own step of the same queue, and
 /// none but `new` takes memory. Contracts see a queue as its name.
 #[derive(Drop)]
-pub struct CommandQueue<const QUEUE: usize> {
-    line: RuledArrayQueue<Submission, Role, InOrder>,
+pub struct CommandQueue<J: Named, const QUEUE: usize> {
+    line: RuledArrayQueue<Submission, Role, InOrder<J>>,
 }
 
-impl<const QUEUE: usize> Model for CommandQueue<QUEUE> {
+impl<J: Named, const QUEUE: usize> Model for CommandQueue<J, QUEUE> {
     ghost use Rattle.std.specs.Prelude.{◌≡◌};
     ghost use Rattle.atomic_table.specs.Seated.{TableId};
     ghost use Rattle.crossbeam_queue.specs.Passes.{ruled_capacity};
@@ -34,14 +39,14 @@ impl<const QUEUE: usize> Model for CommandQueue<QUEUE> {
     ghost invariant = { λ q. ruled_capacity q.line ≡ QUEUE };
 }
 
-impl<const QUEUE: usize> CommandQueue<QUEUE> {
+impl<J: Named, const QUEUE: usize> CommandQueue<J, QUEUE> {
     /// An empty queue, with a pass for each of this many senders, 1 to 8, the k-th for sender k, and the
     /// receiver's. `Err` where memory runs out.
     pub fn new<R: Wait>(
         _rt: &R,
         alloc: Global,
         senders: u32,
-    ) -> Result<(CommandQueue<QUEUE>, Vec<SendPass>, RecvPass), AllocError>
+    ) -> Result<(CommandQueue<J, QUEUE>, Vec<SendPass>, RecvPass), AllocError>
         requires size { (0 < QUEUE) × (QUEUE ≤ 1024) }
         requires senders { (0 < senders) × (senders ≤ 8) }
         ensures senders { IfOk result (λ r. r.1.items ≡ fresh_senders r.0 senders) }
@@ -85,8 +90,8 @@ impl<const QUEUE: usize> CommandQueue<QUEUE> {
         }
     }
 
-    /// Puts a submission behind all that the queue holds, in one step. `Err` only where the queue was full
-    /// at a step of this call; the submission comes back.
+    /// Puts a submission behind all that the queue holds, in one step. It carries a mark of J's board, or is a
+    /// Leave, which has none. `Err` only where the queue was full at a step of this call; it comes back.
     pub fn send<R: Wait>(
         &self,
         rt: &R,
@@ -96,12 +101,16 @@ impl<const QUEUE: usize> CommandQueue<QUEUE> {
         requires own { pass.old.queue ≡ self.now }
         requires task { task_of submission ≡ pass.old.number }
         requires turn { MayFollow pass.old.sent submission }
+        requires front { HasFront J.board submission }
         ensures sent { OnOk result (pass.new ≡ record pass.old { sent = pass.old.sent ++ submission ∷ [] }) }
         ensures back { IfErr result (λ back. back ≡ submission) }
-        ensures full { IfErr result (λ _. WasFull QUEUE pass.old) }
+        ensures full { IfErr result (λ _. WasFull J.board QUEUE pass.old) }
         ensures counted { IfErr result (λ _. pass.new ≡ record pass.old { fulls = pass.old.fulls + 1 }) }
     {
-        match self.line.push_as::<Sent, R>(rt, &mut pass.pass, submission) {
+        match self
+            .line
+            .push_as::<Sent<J>, R>(rt, &mut pass.pass, submission)
+        {
             Ok(()) => Ok(()),
             Err(back) => {
                 self.count_full(pass);
@@ -117,7 +126,8 @@ impl<const QUEUE: usize> CommandQueue<QUEUE> {
         ensures taken { IfSome result (λ s. pass.new ≡ record pass.old { taken = pass.old.taken ++ s ∷ [] }) }
         ensures sender { IfSome result (λ s. task_of s < pass.old.senders) }
         ensures turn { IfSome result (λ s. MayFollow (of_task (task_of s) pass.old.taken) s) }
-        ensures empty { IfNone result (WasEmpty pass.old) }
+        ensures front { IfSome result (λ s. HasFront J.board s) }
+        ensures empty { IfNone result (WasEmpty J.board pass.old) }
         ensures counted { IfNone result (pass.new ≡ record pass.old { empties = pass.old.empties + 1 }) }
         ensures all { IfNone result (IsAllTaken pass.old.taken pass.old.joined) }
     {
@@ -139,32 +149,50 @@ impl<const QUEUE: usize> CommandQueue<QUEUE> {
         self.line.absorb::<Release>(&mut pass.pass, sender.pass);
     }
 
+    /// How many submissions the queue holds at a step of this call, of all senders. Those of this one are what
+    /// it sent and the receiver hasn't taken: where the answer is 0, both know the same of it. No pass changes.
+    pub fn held<R: Wait>(&self, rt: &R, sender: &mut SendPass, receiver: &mut RecvPass) -> usize
+        requires own { (sender.old.queue ≡ self.now) × (receiver.old.queue ≡ self.now) }
+        ensures held { HoldsOf sender.old receiver.old result }
+        ensures sender { sender.new ≡ sender.old }
+        ensures receiver { receiver.new ≡ receiver.old }
+    {
+        // A look tells one pass of what it knows itself: so for the look the two are one pass.
+        let spare = self.line.another::<Spare>(&mut sender.pass);
+        self.line
+            .absorb::<Meet>(&mut receiver.pass, mem::replace(&mut sender.pass, spare));
+        let held = self.line.len_as::<Look<J>, R>(rt, &mut receiver.pass);
+        sender.pass = self.line.another::<Part>(&mut receiver.pass);
+        held
+    }
+
     /// Takes the oldest submission, or finds the queue empty, in one step.
     fn pop<R: Wait>(&self, rt: &R, pass: &mut RecvPass) -> Option<Submission>
         requires own { pass.old.queue ≡ self.now }
         ensures taken { IfSome result (λ s. pass.new ≡ record pass.old { taken = pass.old.taken ++ s ∷ [] }) }
         ensures sender { IfSome result (λ s. task_of s < pass.old.senders) }
         ensures turn { IfSome result (λ s. MayFollow (of_task (task_of s) pass.old.taken) s) }
-        ensures empty { IfNone result ((pass.new ≡ pass.old) × WasEmpty pass.old) }
+        ensures front { IfSome result (λ s. HasFront J.board s) }
+        ensures empty { IfNone result ((pass.new ≡ pass.old) × WasEmpty J.board pass.old) }
     {
-        self.line.pop_as::<Taken, R>(rt, &mut pass.pass)
+        self.line.pop_as::<Taken<J>, R>(rt, &mut pass.pass)
     }
 
     /// Counts a look that found the queue full, by a step behind it. Nothing else raises the count.
     fn count_full(&self, pass: &mut SendPass)
         requires own { pass.old.queue ≡ self.now }
-        requires full { WasFull QUEUE pass.old }
+        requires full { WasFull J.board QUEUE pass.old }
         ensures counted { pass.new ≡ record pass.old { fulls = pass.old.fulls + 1 } }
     {
-        self.line.another::<Miss>(&mut pass.pass);
+        self.line.another::<Full>(&mut pass.pass);
     }
 
     /// Counts a look that found the queue empty, by a step behind it. Nothing else raises the count.
     fn count_empty(&self, pass: &mut RecvPass)
         requires own { pass.old.queue ≡ self.now }
-        requires empty { WasEmpty pass.old }
+        requires empty { WasEmpty J.board pass.old }
         ensures counted { pass.new ≡ record pass.old { empties = pass.old.empties + 1 } }
     {
-        self.line.another::<Miss>(&mut pass.pass);
+        self.line.another::<Empty>(&mut pass.pass);
     }
 }

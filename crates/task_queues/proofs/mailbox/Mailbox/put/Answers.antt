@@ -5,4 +5,4 @@ use Rattle.task_queues.proofs.MailboxMoves.{puts}
 use Rattle.task_queues.proofs.mailbox.Mailbox.put.Goals as goal
 
 pub push_as-requires-clause-rule : goal.push_as-requires-clause-rule
-push_as-requires-clause-rule g c = (puts _ _ _ _ (ap (λ (v : End). v.puts) c.pass.invariant.1), learns _ _ _)
+push_as-requires-clause-rule g c = (puts _ _ _ _ _ (ap (λ (v : End). v.puts) c.pass.invariant.1) c.requires.sound, learns _ _ _)
