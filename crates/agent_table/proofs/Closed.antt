@@ -20,7 +20,7 @@ use Rattle.agent_journal.specs.declared.setup.Setup.{Setup}
 use Rattle.agent_journal.specs.declared.setup.Phase.{Phase}
 use Rattle.agent_journal.specs.declared.setup.Phase.TheVariants.{Down, Opening, Up, Spilled, Off}
 use Rattle.agent_journal.specs.Endings.{is_off, ending_by}
-use Rattle.agent_journal.specs.Readings.{Pending, pending_of, opens, opened_by, sent_id, stays_open, has_left, leaves_by}
+use Rattle.agent_journal.specs.Readings.{Pending, pending_of, opens, opened_by, sent_filters, sent_id, stays_open, has_left, leaves_by}
 use Rattle.agent_journal.specs.Requests.{is_valid, is_few, is_wanted}
 use Rattle.agent_table.specs.Arrivals.{is_subscribe}
 use Rattle.agent_table.specs.Closings.{closes, has_closed, asks_end, was_asked_to_end, OffHasClosed, ClosedIsOff, ClosedUnaskedIsAFault, HasFewCodesIn, HasFewCodes, GrantedAreFew}
@@ -154,13 +154,13 @@ take_valid s l r at task seq request some =
 abbrev IsValidCommand : Pending → Type 0
 IsValidCommand command = is_valid command.request ≡ true
 
-by_id : (task seq : ℕ) (request : Request) (id : Option ℕ) → is_valid request ≡ true → AllByRecursion IsValidCommand (opened_by task seq request id)
-by_id task seq request None valid = tt
-by_id task seq request (Some id) valid = (valid, tt)
+by_id : (task seq : ℕ) (request : Request) (filters : List (List ℕ)) (id : Option ℕ) → is_valid request ≡ true → AllByRecursion IsValidCommand (opened_by task seq request filters id)
+by_id task seq request filters None valid = tt
+by_id task seq request filters (Some id) valid = (valid, tt)
 
 opens_valid : (s : Setup) (l : Sizes) (r : Readings) (at : ℕ) (cause : Cause) (effects : List Effect) → is_some (row_of s l r at cause) ≡ true → AllByRecursion IsValidCommand (opens cause effects)
 opens_valid s l r at c.Opened effects some = tt
-opens_valid s l r at (c.Take task seq request) effects some = by_id task seq request (sent_id effects) (take_valid s l r at task seq request some)
+opens_valid s l r at (c.Take task seq request) effects some = by_id task seq request (sent_filters effects) (sent_id effects) (take_valid s l r at task seq request some)
 opens_valid s l r at (c.Arrived packet) effects some = tt
 opens_valid s l r at (c.Broke why) effects some = tt
 opens_valid s l r at c.Tick effects some = tt

@@ -28,7 +28,10 @@ use Rattle.agent_journal.specs.declared.ending.Ending.TheVariants as ends_by
 use Rattle.agent_journal.specs.declared.setup.Setup.{Setup}
 use Rattle.agent_journal.specs.declared.setup.Phase.{Phase}
 use Rattle.agent_journal.specs.declared.setup.Phase.TheVariants.{Down, Opening, Up, Spilled, Off}
-use Rattle.agent_journal.specs.Endings.{is_off, ending_by, ending_by_packet, by_first_packet, by_code}
+use Rattle.agent_journal.specs.declared.off.OffBy.{OffBy}
+use Rattle.agent_journal.specs.declared.off.OffBy.TheVariants as by
+use Rattle.agent_journal.specs.Endings.{is_off, ending_by, ending_of}
+use Rattle.agent_journal.specs.Offs.{by_packet, by_first_packet, by_code}
 use Rattle.agent_journal.specs.Readings.{Pending}
 use Rattle.agent_table.specs.Arrivals.{arrived_row, arrived_in, opening_row, up_row, connack_row, first_row, resumed_row, publish_row, message_row, received_row, puback_row, pubrec_row, pubcomp_row, suback_row, unsuback_row, awaited, is_subscribe, is_unsubscribe, at, publishes_at, all_done, all_granted}
 use Rattle.agent_table.specs.Breaks.{opened_row, broke_row, fault_row, end_row, idle_row, bytes_row, keep_alive_row, in_full_row, gave_up_row, tick_row, finish_row, down, all_left, is_none}
@@ -44,11 +47,11 @@ use Rattle.agent_table.specs.Takes as takes
 
 -- ---- How it ends
 
-by_code_bad : (b : Bool) (code : ℕ) → cond b ends_by.Held (ends_by.Refused code) ≡ ends_by.Done → ⊥
+by_code_bad : (b : Bool) (code : ℕ) → ending_of (cond b by.Held (by.Refused code)) ≡ ends_by.Done → ⊥
 by_code_bad true code e = absurd (cc e)
 by_code_bad false code e = absurd (cc e)
 
-first_bad : (packet : Packet) → by_first_packet packet ≡ ends_by.Done → ⊥
+first_bad : (packet : Packet) → ending_of (by_first_packet packet) ≡ ends_by.Done → ⊥
 first_bad (p.Connect clean keep_alive client will user password) e = absurd (cc e)
 first_bad (p.ConnAck present code) e = by_code_bad (code == 0) code e
 first_bad (p.Publish dup qos retain topic id payload) e = absurd (cc e)
@@ -64,7 +67,7 @@ first_bad p.PingReq e = absurd (cc e)
 first_bad p.PingResp e = absurd (cc e)
 first_bad p.Disconnect e = absurd (cc e)
 
-packet_bad : (phase : Phase) (packet : Packet) → ending_by_packet phase packet ≡ ends_by.Done → ⊥
+packet_bad : (phase : Phase) (packet : Packet) → ending_of (by_packet phase packet) ≡ ends_by.Done → ⊥
 packet_bad Down packet e = absurd (cc e)
 packet_bad Opening packet e = first_bad packet e
 packet_bad Up packet e = absurd (cc e)

@@ -18,7 +18,7 @@ use Rattle.agent_journal.specs.declared.entry.Entry.{Entry}
 use Rattle.agent_journal.specs.declared.effect.Effect.{Effect}
 use Rattle.agent_journal.specs.declared.effect.Effect.TheVariants as f
 use Rattle.agent_journal.specs.declared.setup.Setup.{Setup}
-use Rattle.agent_journal.specs.Readings.{Pending, pending_of, opens, opened_by, sent_id, stays_open}
+use Rattle.agent_journal.specs.Readings.{Pending, pending_of, opens, opened_by, sent_filters, sent_id, stays_open}
 use Rattle.agent_table.specs.Deliveries.{is_among, is_open_publish, is_exactly_once, with_released, released_by, released_behind, released_of}
 use Rattle.agent_table.specs.Effects.{used, fresh_id}
 use Rattle.agent_table.specs.Histories.{IsLegalPast, readings, row, effects_of}
@@ -122,15 +122,15 @@ module _ (s : Setup) (l : Sizes) (past : List Entry) (free : HasIdentifiers l) (
       let none : is_among (used r) (fresh_id r) ≡ false = fresh_is_free r.last_drawn (used r) (drawn_low s l past free legal) (some_free s l past free legal) in
       cc (none, released_used s l past (fresh_id r) (subst (λ (k : ℕ). is_among (released_of past) k ≡ true) is among))
 
-  by_id : (task seq : ℕ) (request : Request) (id : Option ℕ) → (id ≡ None) ⊎ (id ≡ Some (fresh_id r)) → IsOneOf command (opened_by task seq request id) → is_among (released_of past) command.id ≡ true → ⊥
-  by_id task seq request None draws one among = one
-  by_id task seq request (Some id) (inl none) one among = cc none
-  by_id task seq request (Some id) (inr is) (inl same) among = let number : id ≡ fresh_id r = cc in new_number command.id (ap (λ (x : Pending). x.id) same ∙ number) among
-  by_id task seq request (Some id) (inr is) (inr one) among = one
+  by_id : (task seq : ℕ) (request : Request) (filters : List (List ℕ)) (id : Option ℕ) → (id ≡ None) ⊎ (id ≡ Some (fresh_id r)) → IsOneOf command (opened_by task seq request filters id) → is_among (released_of past) command.id ≡ true → ⊥
+  by_id task seq request filters None draws one among = one
+  by_id task seq request filters (Some id) (inl none) one among = cc none
+  by_id task seq request filters (Some id) (inr is) (inl same) among = let number : id ≡ fresh_id r = cc in new_number command.id (ap (λ (x : Pending). x.id) same ∙ number) among
+  by_id task seq request filters (Some id) (inr is) (inr one) among = one
 
   not_new : (at : ℕ) (cause : Cause) (effects : List Effect) → effects_of (row s l past at cause) ≡ Some effects → IsOneOf command (opens cause effects) → is_among (released_of past) command.id ≡ true → ⊥
   not_new at c.Opened effects has one among = one
-  not_new at (c.Take task seq request) effects has one among = by_id task seq request (sent_id effects) (take_draws r s l at task seq request effects has) one among
+  not_new at (c.Take task seq request) effects has one among = by_id task seq request (sent_filters effects) (sent_id effects) (take_draws r s l at task seq request effects has) one among
   not_new at (c.Arrived packet) effects has one among = one
   not_new at (c.Broke why) effects has one among = one
   not_new at c.Tick effects has one among = one
@@ -210,7 +210,7 @@ opened_taken : (past : List Entry) (e : Entry) (command : Pending) (cause : Caus
 opened_taken past e command c.Opened is one = absurd one
 opened_taken past e command (c.Take task seq request) is one = by (sent_id e.effects) refl one
   where
-    by : (id : Option ℕ) → sent_id e.effects ≡ id → IsOneOf command (opened_by task seq request id) → WasTaken (e ∷ past) command
+    by : (id : Option ℕ) → sent_id e.effects ≡ id → IsOneOf command (opened_by task seq request (sent_filters e.effects) id) → WasTaken (e ∷ past) command
     by None same one = absurd one
     by (Some id) same (inl its) =
         ([], past, e, refl, subst (λ (x : Pending). e.cause ≡ c.Take x.task x.seq x.request) (sym its) is, subst (λ (x : Pending). sent_id e.effects ≡ Some x.id) (sym its) same)

@@ -12,7 +12,7 @@ use Rattle.agent_journal.specs.declared.entry.Entry.{Entry}
 use Rattle.agent_journal.specs.declared.effect.Effect.{Effect}
 use Rattle.agent_journal.specs.declared.setup.Setup.{Setup}
 use Rattle.agent_journal.specs.Projections.{commands_of}
-use Rattle.agent_journal.specs.Readings.{Pending, pending_of, opens, opened_by, sent_id, stays_open}
+use Rattle.agent_journal.specs.Readings.{Pending, pending_of, opens, opened_by, sent_filters, sent_id, stays_open}
 use Rattle.agent_table.specs.Deliveries.{is_among, is_open_publish, is_exactly_once, publishes, released_behind, released_of}
 use Rattle.agent_table.specs.Histories.{IsLegalPast, readings, row, effects_of}
 use Rattle.agent_table.specs.Laws.{IsOneOf, WasReceived}
@@ -46,15 +46,15 @@ numbered s l past command legal one = elim (cases_lt command.seq (commands_of co
 
 module _ (s : Setup) (l : Sizes) (command : Pending) (before : List Entry) where
   -- it isn't taken again
-  by_id : (task seq : ℕ) (request : Request) (id : Option ℕ) → IsOneOf command (opened_by task seq request id) → (command.task ≡ task) × (command.seq ≡ seq)
-  by_id task seq request None one = absurd one
-  by_id task seq request (Some id) (inl same) = (ap (λ (x : Pending). x.task) same, ap (λ (x : Pending). x.seq) same)
-  by_id task seq request (Some id) (inr none) = absurd none
+  by_id : (task seq : ℕ) (request : Request) (filters : List (List ℕ)) (id : Option ℕ) → IsOneOf command (opened_by task seq request filters id) → (command.task ≡ task) × (command.seq ≡ seq)
+  by_id task seq request filters None one = absurd one
+  by_id task seq request filters (Some id) (inl same) = (ap (λ (x : Pending). x.task) same, ap (λ (x : Pending). x.seq) same)
+  by_id task seq request filters (Some id) (inr none) = absurd none
 
   not_again : (e : Entry) (past : List Entry) (cause : Cause) → e.cause ≡ cause → IsLegalPast s l (e ∷ past) → command.seq < commands_of command.task past → IsOneOf command (opens cause e.effects) → ⊥
   not_again e past c.Opened is legal low one = one
   not_again e past (c.Take task seq request) is legal low one =
-      let its = by_id task seq request (sent_id e.effects) one in
+      let its = by_id task seq request (sent_filters e.effects) (sent_id e.effects) one in
       let next = taken_next s l (readings s l past) e.at task seq request (has_row (row s l past e.at (c.Take task seq request)) e.effects (ap (λ (k : Cause). effects_of (row s l past e.at k)) (sym is) ∙ legal.0)) in
       let all : seq ≡ commands_of task past = next.0 ∙ all_commands task past next.1 in
       let same : commands_of command.task past ≡ commands_of task past = ap (λ (u : ℕ). commands_of u past) its.0 in
