@@ -86,7 +86,8 @@ fn run_command<S: Source, O: Sink>(alloc: Global, words: &Words, script: &mut S,
 /// Reads the source and replays it.
 #[tactic(auto, using(crate::proofs::Told::told_sized, crate::proofs::Told::told_fault))]
 fn run<S: Source, O: Sink>(alloc: Global, words: &RunWords, source: &mut S, out: &mut O) -> u8
-    requires { is_client words.now.client ≡ true }
+    requires client { is_client words.now.client ≡ true }
+    requires reopen { words.now.reopen ≤ 4294967294 }
     ensures answer { IfSome (S.left source.old) (λ text. result ≢ 9 →
         Answers result (O.written out.old) (O.written out.new) (answers.source_answer words.now text)) }
     ensures no_words { result ≢ 1 }
@@ -101,7 +102,8 @@ fn run<S: Source, O: Sink>(alloc: Global, words: &RunWords, source: &mut S, out:
 }
 
 fn run_text<O: Sink>(alloc: Global, words: &RunWords, text: &[u8], out: &mut O) -> u8
-    requires { is_client words.now.client ≡ true }
+    requires client { is_client words.now.client ≡ true }
+    requires reopen { words.now.reopen ≤ 4294967294 }
     ensures whole { length text.now ≤ 1048576 → Answers result (O.written out.old) (O.written out.new) (answers.source_answer words.now text.now) }
     ensures long { 1048576 < length text.now → Answers result (O.written out.old) (O.written out.new) answers.too_long }
     ensures no_words { result ≢ 1 }
@@ -118,6 +120,7 @@ fn run_text<O: Sink>(alloc: Global, words: &RunWords, text: &[u8], out: &mut O) 
 #[tactic(auto, using(crate::proofs::Told::script_told, crate::proofs::Told::line_told, replay_agent::proofs::ReadLines::read_script_valid, thing_script::proofs::Short::read_script_short))]
 fn run_script<O: Sink>(alloc: Global, words: &RunWords, text: &[u8], out: &mut O) -> u8
     requires client { is_client words.now.client ≡ true }
+    requires reopen { words.now.reopen ≤ 4294967294 }
     requires few { length text.now ≤ 1048576 }
     ensures answer { Answers result (O.written out.old) (O.written out.new) (answers.source_answer words.now text.now) }
     ensures no_words { result ≢ 1 }
@@ -142,6 +145,7 @@ fn run_lines<O: Sink>(
     out: &mut O,
 ) -> u8
     requires client { is_client words.now.client ≡ true }
+    requires reopen { words.now.reopen ≤ 4294967294 }
     requires lines { script.tasks ≡ 1 → AllByRecursion IsValidLine script.lines }
     requires short { AllByRecursion IsShortLine script.lines }
     requires few { (length script.lines ≤ length text.now) × (length text.now ≤ 1048576) }
@@ -181,6 +185,7 @@ fn run_tape<O: Sink>(
     out: &mut O,
 ) -> u8
     requires client { is_client words.now.client ≡ true }
+    requires reopen { words.now.reopen ≤ 4294967294 }
     requires one_task { script.now.tasks ≡ 1 }
     requires lines { AllByRecursion IsValidLine script.now.lines }
     requires few { (length script.now.lines ≤ length text.now) × (length text.now ≤ 1048576) }
@@ -211,6 +216,7 @@ fn replay_in<O: Sink>(
     out: &mut O,
 ) -> u8
     requires client { is_client words.now.client ≡ true }
+    requires reopen { words.now.reopen ≤ 4294967294 }
     requires one_task { script.now.tasks ≡ 1 }
     requires lines { AllByRecursion IsValidLine script.now.lines }
     requires few { length script.now.lines ≤ 1048576 }

@@ -36,6 +36,7 @@ pub fn replay_call<O: Sink, const ACKS: usize, const IN: usize, const ROUTES: us
 ) -> u8
     requires sizes { (0 < ACKS) × (ACKS ≤ 1024) × (0 < IN) × (IN ≤ 1024) × (0 < ROUTES) × (ROUTES ≤ 1024) }
     requires client { is_client words.now.client ≡ true }
+    requires reopen { words.now.reopen ≤ 4294967294 }
     requires one_task { script.now.tasks ≡ 1 }
     requires lines { AllByRecursion IsValidLine script.now.lines }
     requires few { length script.now.lines ≤ 4000000000 }
@@ -64,6 +65,7 @@ fn replayed<const ACKS: usize, const IN: usize, const ROUTES: usize>(
 ) -> Result<(Page, u8), NoMemory>
     requires sizes { (0 < ACKS) × (ACKS ≤ 1024) × (0 < IN) × (IN ≤ 1024) × (0 < ROUTES) × (ROUTES ≤ 1024) }
     requires client { is_client words.now.client ≡ true }
+    requires reopen { words.now.reopen ≤ 4294967294 }
     requires one_task { script.now.tasks ≡ 1 }
     requires lines { AllByRecursion IsValidLine script.now.lines }
     requires few { length script.now.lines ≤ 4000000000 }
