@@ -35,6 +35,7 @@ pub fn replay_call<O: Sink, const ACKS: usize, const IN: usize, const ROUTES: us
 ) -> u8
     requires sizes { (0 < ACKS) × (ACKS ≤ 1024) × (0 < IN) × (IN ≤ 1024) × (0 < ROUTES) × (ROUTES ≤ 1024) }
     requires client { is_client words.now.client ≡ true }
+    requires reopen { words.now.reopen ≤ 4294967294 }
     requires one_task { script.now.tasks ≡ 1 }
     requires lines { AllByRecursion IsValidLine script.now.lines }
     requires plain { AllByRecursion IsPlainLine script.now.lines }
@@ -63,6 +64,7 @@ fn replayed<const ACKS: usize, const IN: usize, const ROUTES: usize>(
 ) -> Result<(Page, u8), NoMemory>
     requires sizes { (0 < ACKS) × (ACKS ≤ 1024) × (0 < IN) × (IN ≤ 1024) × (0 < ROUTES) × (ROUTES ≤ 1024) }
     requires client { is_client words.now.client ≡ true }
+    requires reopen { words.now.reopen ≤ 4294967294 }
     requires one_task { script.now.tasks ≡ 1 }
     requires lines { AllByRecursion IsValidLine script.now.lines }
     requires plain { AllByRecursion IsPlainLine script.now.lines }

@@ -37,7 +37,8 @@ pub fn replay_command<S: Source, O: Sink>(
     source: &mut S,
     out: &mut O,
 ) -> u8
-    requires { is_client words.now.client ≡ true }
+    requires client { is_client words.now.client ≡ true }
+    requires reopen { words.now.reopen ≤ 4294967294 }
     ensures ends { EndsBySource result (source_now (S.left source.old) (S.faults source.old)) (source_now (S.left source.new) (S.faults source.new))
         (sink_now (O.written out.old) (O.faults out.old))
         (sink_now (O.written out.new) (O.faults out.new)) (answers.source_answer words.now) }
@@ -57,6 +58,7 @@ pub fn replay_command<S: Source, O: Sink>(
 #[tactic(auto, using(crate::proofs::Told::line_told, replay_agent::proofs::ReadLines::read_script_valid, thing_script::proofs::Short::read_script_short))]
 fn replay_text<O: Sink>(alloc: Global, words: &RunWords, text: &[u8], out: &mut O) -> u8
     requires client { is_client words.now.client ≡ true }
+    requires reopen { words.now.reopen ≤ 4294967294 }
     requires few { length text.now ≤ source_limit }
     ensures ends { Ends result (sink_now (O.written out.old) (O.faults out.old))
         (sink_now (O.written out.new) (O.faults out.new)) (answers.text_answer words.now text.now) }
@@ -81,6 +83,7 @@ fn replay_lines<O: Sink>(
     out: &mut O,
 ) -> u8
     requires client { is_client words.now.client ≡ true }
+    requires reopen { words.now.reopen ≤ 4294967294 }
     requires lines { script.tasks ≡ 1 → AllByRecursion IsValidLine script.lines }
     requires short { AllByRecursion IsShortLine script.lines }
     requires few { (length script.lines ≤ length text.now) × (length text.now ≤ source_limit) }
@@ -122,6 +125,7 @@ fn replay_tape<O: Sink>(
     out: &mut O,
 ) -> u8
     requires client { is_client words.now.client ≡ true }
+    requires reopen { words.now.reopen ≤ 4294967294 }
     requires one_task { script.now.tasks ≡ 1 }
     requires lines { AllByRecursion IsValidLine script.now.lines }
     requires plain { AllByRecursion IsPlainLine script.now.lines }
@@ -153,6 +157,7 @@ fn replay_sized<O: Sink>(
     out: &mut O,
 ) -> u8
     requires client { is_client words.now.client ≡ true }
+    requires reopen { words.now.reopen ≤ 4294967294 }
     requires one_task { script.now.tasks ≡ 1 }
     requires lines { AllByRecursion IsValidLine script.now.lines }
     requires plain { AllByRecursion IsPlainLine script.now.lines }
