@@ -1,5 +1,5 @@
 -- Who is closed when the agent has ended, and how it ended then; and how many codes a subscribe is granted.
-use Rattle.std.proofs.Common.{◌≡◌, ◌⊎◌, ℕ, ◌<◌, ◌≤◌, Bool, true, false, cond, List, [], ◌∷◌, ◌++◌, filter, length, Option, Some, None, is_some, refl, sym, ap, ◌∙◌, subst, arith}
+use Rattle.std.proofs.Common.{◌≡◌, ◌⊎◌, ℕ, ◌≤◌, Bool, true, false, cond, List, [], ◌∷◌, ◌++◌, length, Option, Some, None, is_some, refl, sym, ap, ◌∙◌, subst, arith}
 use Rattle.std.specs.Prelude.{◌&&◌, ◌||◌, ◌==◌, not, nat_lt, nat_le}
 use Rattle.std.specs.List.{list_all, AllByRecursion}
 use Rattle.std.proofs.lemmas.Bool.{and_parts, leb-true}
@@ -17,8 +17,7 @@ use Rattle.agent_journal.specs.declared.effect.Effect.TheVariants as f
 use Rattle.agent_journal.specs.declared.ending.Ending.{Ending}
 use Rattle.agent_journal.specs.declared.ending.Ending.TheVariants as ends_by
 use Rattle.agent_journal.specs.declared.setup.Setup.{Setup}
-use Rattle.agent_journal.specs.declared.setup.Phase.{Phase}
-use Rattle.agent_journal.specs.declared.setup.Phase.TheVariants.{Down, Opening, Up, Spilled, Off}
+use Rattle.agent_journal.specs.declared.setup.Phase.TheVariants.{Off}
 use Rattle.agent_journal.specs.Endings.{is_off, ending_by}
 use Rattle.agent_journal.specs.Readings.{Pending, pending_of, opens, opened_by, sent_filters, sent_id, stays_open, has_left, leaves_by}
 use Rattle.agent_journal.specs.Requests.{is_valid, is_few, is_wanted}
@@ -32,7 +31,7 @@ use Rattle.agent_table.specs.Routes.{asks_in}
 use Rattle.agent_table.specs.Rows.{Row, when}
 use Rattle.agent_table.specs.Sizes.{Sizes}
 use Rattle.agent_table.specs.Table.{row_of}
-use Rattle.agent_table.specs.Takes.{take_row, may_take, take_in}
+use Rattle.agent_table.specs.Takes.{take_row, may_take}
 use Rattle.agent_table.proofs.Closes.{AtEnd, Closing, closing_row}
 use Rattle.agent_table.proofs.Earned.{outcomes_are_earned}
 use Rattle.agent_table.proofs.Once.{has_row}

@@ -1,5 +1,5 @@
 -- Which rows close tasks.
-use Rattle.std.proofs.Common.{◌≡◌, ◌⊎◌, ℕ, zero, suc, ◌+◌, ◌<◌, Bool, true, false, cond, List, [], ◌∷◌, ◌++◌, map, drop, filter, Option, Some, None, refl, sym, ap, ◌∙◌, subst, arith}
+use Rattle.std.proofs.Common.{◌≡◌, ◌⊎◌, ℕ, zero, suc, ◌+◌, ◌<◌, Bool, true, false, cond, List, [], ◌∷◌, ◌++◌, map, drop, filter, Option, Some, None, refl, sym, ap, ◌∙◌, arith}
 use Rattle.std.specs.Prelude.{◌==◌, ◌||◌, ◌&&◌, not, nat_lt, nat_le, length}
 use Rattle.std.specs.List.{list_any, flat_map}
 use Rattle.std.proofs.lemmas.Bool.{eq-eqb, cases_eq, and_parts}
@@ -23,17 +23,15 @@ use Rattle.agent_journal.specs.declared.entry.Why.{Why}
 use Rattle.agent_journal.specs.declared.entry.Why.TheVariants as w
 use Rattle.agent_journal.specs.declared.effect.Effect.{Effect}
 use Rattle.agent_journal.specs.declared.effect.Effect.TheVariants as f
-use Rattle.agent_journal.specs.declared.ending.Ending.{Ending}
 use Rattle.agent_journal.specs.declared.ending.Ending.TheVariants as ends_by
 use Rattle.agent_journal.specs.declared.setup.Setup.{Setup}
 use Rattle.agent_journal.specs.declared.setup.Phase.{Phase}
 use Rattle.agent_journal.specs.declared.setup.Phase.TheVariants.{Down, Opening, Up, Spilled, Off}
-use Rattle.agent_journal.specs.declared.off.OffBy.{OffBy}
 use Rattle.agent_journal.specs.declared.off.OffBy.TheVariants as by
 use Rattle.agent_journal.specs.Endings.{is_off, ending_by, ending_of}
-use Rattle.agent_journal.specs.Offs.{by_packet, by_first_packet, by_code}
+use Rattle.agent_journal.specs.Offs.{by_packet, by_first_packet}
 use Rattle.agent_journal.specs.Readings.{Pending}
-use Rattle.agent_table.specs.Arrivals.{arrived_row, arrived_in, opening_row, up_row, connack_row, first_row, resumed_row, publish_row, message_row, received_row, puback_row, pubrec_row, pubcomp_row, suback_row, unsuback_row, awaited, is_subscribe, is_unsubscribe, at, publishes_at, all_done, all_granted}
+use Rattle.agent_table.specs.Arrivals.{arrived_row, arrived_in, opening_row, up_row, connack_row, first_row, resumed_row, publish_row, message_row, puback_row, pubrec_row, pubcomp_row, suback_row, unsuback_row, awaited, is_subscribe, is_unsubscribe, at, publishes_at, all_done, all_granted}
 use Rattle.agent_table.specs.Breaks.{opened_row, broke_row, fault_row, end_row, idle_row, bytes_row, keep_alive_row, in_full_row, gave_up_row, tick_row, finish_row, down, all_left, is_none}
 use Rattle.agent_table.specs.Closings.{closes_task, closes, asks_end}
 use Rattle.agent_table.specs.Deliveries.{is_among, is_open_publish, is_at_least_once, is_exactly_once}
@@ -383,11 +381,14 @@ module _ (t : ℕ) where
     closing_disconnect : (request : Request) → r.phase ≡ Up → asks_end (c.Take task seq request) ≡ true → Closing s r (c.Take task seq request) (takes.disconnect_row s r task seq)
     unfolding takes.disconnect_row
     closing_disconnect request is asked =
-        inr (refl, record {
-          on = ap is_off is;
-          told = λ low stays. behind (cancel_all r) (f.Send p.Disconnect ∷ f.Done task seq o.Done ∷ close s r) (all_closed s.tasks r.left low stays);
-          well = λ unasked e. absurd (cc (asked, unasked));
-        })
+        inr (
+          refl,
+          record {
+            on = ap is_off is;
+            told = λ low stays. behind (cancel_all r) (f.Send p.Disconnect ∷ f.Done task seq o.Done ∷ close s r) (all_closed s.tasks r.left low stays);
+            well = λ unasked e. absurd (cc (asked, unasked));
+          },
+        )
 
     closing_request : (request : Request) → r.phase ≡ Up → Closing s r (c.Take task seq request) (takes.up_row s l r task seq request)
     unfolding takes.subscribe_row takes.unsubscribe_row

@@ -1,5 +1,5 @@
 -- What a Take opens has the fresh identifier.
-use Rattle.std.proofs.Common.{◌≡◌, ◌⊎◌, ℕ, Bool, true, false, cond, List, [], ◌∷◌, ◌++◌, Option, Some, None, refl, ap, ◌∙◌, subst}
+use Rattle.std.proofs.Common.{◌≡◌, ◌⊎◌, ℕ, Bool, true, false, cond, List, [], ◌∷◌, Option, Some, None, refl, ◌∙◌, subst}
 use Rattle.std.specs.Prelude.{nat_lt, nat_le, length}
 use mathlib.Core.Logic.{inl, inr}
 use Rattle.mqtt_packet.specs.declared.qos.Qos.{Qos}
@@ -15,7 +15,7 @@ use Rattle.agent_journal.specs.declared.setup.Setup.{Setup}
 use Rattle.agent_journal.specs.declared.setup.Phase.{Phase}
 use Rattle.agent_journal.specs.declared.setup.Phase.TheVariants.{Down, Opening, Up, Spilled, Off}
 use Rattle.agent_journal.specs.Readings.{sent_id}
-use Rattle.agent_table.specs.Effects.{cancel_all, close, fresh_id}
+use Rattle.agent_table.specs.Effects.{close, fresh_id}
 use Rattle.agent_table.specs.Histories.{effects_of}
 use Rattle.agent_table.specs.Readings.{Readings}
 use Rattle.agent_table.specs.Rows.{Row, when}

@@ -1,9 +1,9 @@
 -- The fresh identifier is the first that isn't in use.
-use Rattle.std.proofs.Common.{◌≡◌, ℕ, zero, suc, ◌+◌, ◌<◌, ◌≤◌, Bool, true, false, List, length, refl, ap, ◌∙◌, arith}
+use Rattle.std.proofs.Common.{◌≡◌, ℕ, zero, suc, ◌<◌, Bool, true, false, List, length, refl, arith}
 use Rattle.std.specs.Prelude.{if◌then◌else◌}
 use Rattle.agent_table.specs.Deliveries.{is_among}
 use Rattle.agent_table.specs.Identifiers.{behind, first_free, fresh}
-use Rattle.agent_table.specs.Meanings.{further, IsFirstUnused, FreshIsFirstUnused}
+use Rattle.agent_table.specs.Meanings.{further, FreshIsFirstUnused}
 use Rattle.agent_table.proofs.Fresh.{fresh_is_free}
 
 -- so many are passed over, and each of them is in use

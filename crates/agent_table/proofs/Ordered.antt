@@ -1,7 +1,7 @@
 -- The released stand in the order of their first PUBRECs.
-use Rattle.std.proofs.Common.{◌≡◌, ◌⊎◌, ℕ, Bool, true, false, cond, List, [], ◌∷◌, ◌++◌, filter, refl, sym, ap, ◌∙◌, subst}
+use Rattle.std.proofs.Common.{◌≡◌, ◌⊎◌, ℕ, Bool, true, false, cond, List, [], ◌∷◌, ◌++◌, filter, refl, ap, subst}
 use Rattle.std.specs.Prelude.{◌&&◌, ◌||◌, ◌==◌, not}
-use Rattle.std.proofs.lemmas.Bool.{eqb-true, and_parts}
+use Rattle.std.proofs.lemmas.Bool.{eqb-true}
 use mathlib.Core.Logic.{inl, inr}
 use Rattle.mqtt_packet.specs.declared.packet.Packet.{Packet}
 use Rattle.mqtt_packet.specs.declared.packet.Packet.TheVariants as p
@@ -10,7 +10,7 @@ use Rattle.agent_journal.specs.declared.entry.Cause.TheVariants as c
 use Rattle.agent_journal.specs.declared.entry.Entry.{Entry}
 use Rattle.agent_journal.specs.Readings.{Pending, pending_of}
 use Rattle.agent_table.specs.Deliveries.{is_among, is_open_publish, is_exactly_once, with_released, released_by, released_behind, released_of}
-use Rattle.agent_table.specs.Meanings.{precedes, StaysReleased, WasReleasedFirst, ReleasedAreInOrder}
+use Rattle.agent_table.specs.Meanings.{precedes, WasReleasedFirst, ReleasedAreInOrder}
 use Rattle.agent_table.proofs.Received.{kept}
 
 -- what precedes another is there

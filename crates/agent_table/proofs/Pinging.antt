@@ -8,7 +8,7 @@ use Rattle.agent_journal.specs.declared.entry.Cause.TheVariants as c
 use Rattle.agent_journal.specs.declared.entry.Entry.{Entry}
 use Rattle.agent_table.specs.Meanings.{is_response, begins_anew, NoneBeginsAnew, NonePinged, IsFirstPing, UnansweredIsFirst, FirstIsUnanswered, NoneIsUnanswered}
 use Rattle.agent_table.specs.Sends.{sends_ping}
-use Rattle.agent_table.specs.Sessions.{answered, answered_by, or_at, ping_behind, ping_of}
+use Rattle.agent_table.specs.Sessions.{answered, answered_by, or_at, ping_of}
 
 packet_answers : (packet : Packet) (ping : Option ℕ) → answered_by packet ping ≡ cond (is_response packet) None ping
 packet_answers (p.Connect clean keep_alive client will user password) ping = refl

@@ -22,11 +22,11 @@ use Rattle.agent_journal.specs.Readings.{Pending, pending_of, opens, opened_by, 
 use Rattle.agent_table.specs.Deliveries.{is_among, is_open_publish, is_exactly_once, with_released, released_by, released_behind, released_of}
 use Rattle.agent_table.specs.Effects.{used, fresh_id}
 use Rattle.agent_table.specs.Histories.{IsLegalPast, readings, row, effects_of}
-use Rattle.agent_table.specs.Laws.{HasIdentifiers, IsOneOf, AcknowledgesPublish, AcknowledgesWhere, EarnsOutcomeWhere, EarnsWhere, Earns, EarnsAll, AreEarned, ReadsReceived, WasReceived, ReleasedWereReceived, GoodAreEarned, WasTaken, OpenWereTaken}
+use Rattle.agent_table.specs.Laws.{HasIdentifiers, IsOneOf, AcknowledgesPublish, AcknowledgesWhere, EarnsOutcomeWhere, EarnsWhere, Earns, ReadsReceived, WasReceived, ReleasedWereReceived, GoodAreEarned, WasTaken, OpenWereTaken}
 use Rattle.agent_table.specs.Readings.{Readings}
 use Rattle.agent_table.specs.Sizes.{Sizes}
 use Rattle.agent_table.proofs.Awaiting.{released_used, some_free, drawn_low}
-use Rattle.agent_table.proofs.Drawing.{Draws, take_draws}
+use Rattle.agent_table.proofs.Drawing.{take_draws}
 use Rattle.agent_table.proofs.Earned.{outcomes_are_earned}
 use Rattle.agent_table.proofs.Earned as earned
 use Rattle.agent_table.proofs.Fresh.{fresh_is_free}

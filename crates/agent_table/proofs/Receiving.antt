@@ -1,21 +1,18 @@
 -- An open QoS 2 publish whose own PUBREC arrived is released.
-use Rattle.std.proofs.Common.{◌≡◌, ◌⊎◌, ℕ, ◌+◌, ◌<◌, ◌≤◌, Bool, true, false, cond, List, [], ◌∷◌, ◌++◌, filter, Option, Some, None, refl, sym, ap, ◌∙◌, subst, arith}
-use Rattle.std.specs.Prelude.{◌&&◌, ◌==◌, not, nat_lt}
-use Rattle.std.proofs.lemmas.Bool.{le-ltb, cases_lt, eqb-true}
+use Rattle.std.proofs.Common.{◌≡◌, ◌⊎◌, ℕ, ◌<◌, ◌≤◌, true, List, [], ◌∷◌, ◌++◌, Option, Some, None, refl, sym, ap, ◌∙◌, subst, arith}
+use Rattle.std.proofs.lemmas.Bool.{le-ltb, cases_lt}
 use mathlib.Core.Logic.{inl, inr}
-use Rattle.mqtt_packet.specs.declared.packet.Packet.{Packet}
 use Rattle.mqtt_packet.specs.declared.packet.Packet.TheVariants as p
 use Rattle.agent_journal.specs.declared.request.Request.{Request}
 use Rattle.agent_journal.specs.declared.entry.Cause.{Cause}
 use Rattle.agent_journal.specs.declared.entry.Cause.TheVariants as c
 use Rattle.agent_journal.specs.declared.entry.Entry.{Entry}
-use Rattle.agent_journal.specs.declared.effect.Effect.{Effect}
 use Rattle.agent_journal.specs.declared.setup.Setup.{Setup}
 use Rattle.agent_journal.specs.Projections.{commands_of}
 use Rattle.agent_journal.specs.Readings.{Pending, pending_of, opens, opened_by, sent_filters, sent_id, stays_open}
 use Rattle.agent_table.specs.Deliveries.{is_among, is_open_publish, is_exactly_once, publishes, released_behind, released_of}
 use Rattle.agent_table.specs.Histories.{IsLegalPast, readings, row, effects_of}
-use Rattle.agent_table.specs.Laws.{IsOneOf, WasReceived}
+use Rattle.agent_table.specs.Laws.{IsOneOf}
 use Rattle.agent_table.specs.Meanings.{ReceivedAreReleased}
 use Rattle.agent_table.specs.Sizes.{Sizes}
 use Rattle.agent_table.proofs.Awaiting.{filter_among, with_new, behind_kept, counted, is_open}
@@ -23,7 +20,6 @@ use Rattle.agent_table.proofs.Commands.{below, all_commands}
 use Rattle.agent_table.proofs.Earned as earned
 use Rattle.agent_table.proofs.Once.{has_row, taken_next, each_is_open_or_done}
 use Rattle.agent_table.proofs.Received.{either}
-use Rattle.agent_table.proofs.Staying.{IsIt}
 
 -- the past before these entries is legal, too
 earlier_legal : (s : Setup) (l : Sizes) (later past : List Entry) → IsLegalPast s l (later ++ past) → IsLegalPast s l past
@@ -39,9 +35,9 @@ numbered : (s : Setup) (l : Sizes) (past : List Entry) (command : Pending) → I
 numbered s l past command legal one = elim (cases_lt command.seq (commands_of command.task past)) [
   | inl low ↦ low
   | inr high ↦
-    let sum = each_is_open_or_done s l past legal command.task command.seq in
-    let some = counted command 0 (pending_of past) one in
-    let none : below command.seq (commands_of command.task past) ≡ 0 = rw (le-ltb command.seq (commands_of command.task past) high) refl in absurd (omega (arith, sum, some, none))
+      let sum = each_is_open_or_done s l past legal command.task command.seq in
+      let some = counted command 0 (pending_of past) one in
+      let none : below command.seq (commands_of command.task past) ≡ 0 = rw (le-ltb command.seq (commands_of command.task past) high) refl in absurd (omega (arith, sum, some, none))
 ]
 
 module _ (s : Setup) (l : Sizes) (command : Pending) (before : List Entry) where

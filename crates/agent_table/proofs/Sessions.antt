@@ -1,8 +1,8 @@
 -- The first session: which rows lead to Opening and to Up, and that no CONNACK was accepted with clean session 0 before it.
-use Rattle.std.proofs.Common.{◌≡◌, ◌⊎◌, ℕ, ◌+◌, ◌≤◌, Bool, true, false, cond, List, [], ◌∷◌, ◌++◌, filter, length, Option, Some, None, refl, sym, ap, ◌∙◌, subst, arith}
+use Rattle.std.proofs.Common.{◌≡◌, ◌⊎◌, ℕ, ◌+◌, Bool, true, false, cond, List, [], ◌∷◌, length, Option, Some, None, refl, sym, ap, ◌∙◌, subst, arith}
 use Rattle.std.specs.Prelude.{◌&&◌, ◌||◌, ◌==◌, not, nat_lt, nat_le}
 use Rattle.std.specs.List.{list_any}
-use Rattle.std.proofs.lemmas.Bool.{eqb-true, eq-eqb, and_parts, le-leb, leb-true}
+use Rattle.std.proofs.lemmas.Bool.{eqb-true, eq-eqb, le-leb, leb-true}
 use mathlib.Core.Logic.{inl, inr}
 use Rattle.mqtt_packet.specs.declared.qos.Qos.{Qos}
 use Rattle.mqtt_packet.specs.declared.qos.Qos.TheVariants.{AtMostOnce, AtLeastOnce, ExactlyOnce}
@@ -12,7 +12,6 @@ use Rattle.mqtt_packet.specs.Spelling.{is_sound}
 use Rattle.topic_filter.specs.Texts.{is_name}
 use Rattle.agent_journal.specs.declared.request.Request.{Request}
 use Rattle.agent_journal.specs.declared.request.Request.TheVariants as requests
-use Rattle.agent_journal.specs.declared.outcome.Outcome.TheVariants as o
 use Rattle.agent_journal.specs.declared.entry.Cause.{Cause}
 use Rattle.agent_journal.specs.declared.entry.Cause.TheVariants as c
 use Rattle.agent_journal.specs.declared.entry.Entry.{Entry}

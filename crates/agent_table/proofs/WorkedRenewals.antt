@@ -1,5 +1,5 @@
 -- The worked journals of renewals, by computation.
-use Rattle.std.proofs.Common.{◌≡◌, ℕ, List, [], ◌∷◌, Option, Some, None, refl, ap, arith}
+use Rattle.std.proofs.Common.{◌≡◌, ℕ, List, [], ◌∷◌, Option, Some, refl, ap, arith}
 use Rattle.std.specs.Str as str
 use lib.Utf8 as utf8
 use Rattle.mqtt_packet.specs.Spelling as spelling

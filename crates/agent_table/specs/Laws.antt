@@ -20,7 +20,7 @@ use Rattle.agent_journal.specs.Projections.{commands_of, completions_of, NoneEar
 use Rattle.agent_journal.specs.Readings.{Pending, pending_of, sent_id}
 use Rattle.agent_table.specs.Arrivals.{is_subscribe}
 use Rattle.agent_table.specs.Awaiting.{NoneIsPublishedAgain, NoReleasedIsSent}
-use Rattle.agent_table.specs.Deliveries.{is_among, is_open_publish, is_exactly_once, released_of}
+use Rattle.agent_table.specs.Deliveries.{is_among, released_of}
 use Rattle.agent_table.specs.Histories.{IsLegalPast, IsWholePast, readings, row, effects_of}
 use Rattle.agent_table.specs.Effects.{used}
 use Rattle.agent_table.specs.Identifiers.{fresh}

@@ -13,7 +13,7 @@ use Rattle.agent_table.specs.Awaiting.{is_release_of}
 use Rattle.agent_table.specs.Deliveries.{is_among, is_exactly_once, publishes, released_of, held_of}
 use Rattle.agent_table.specs.Histories.{IsLegalPast}
 use Rattle.agent_table.specs.Identifiers.{behind, fresh}
-use Rattle.agent_table.specs.Laws.{HasIdentifiers, IsOneOf, WasReceived}
+use Rattle.agent_table.specs.Laws.{IsOneOf, WasReceived}
 use Rattle.agent_table.specs.Sends.{sends_received, sends_ping}
 use Rattle.agent_table.specs.Sessions.{is_first, loses_session, ping_of}
 use Rattle.agent_table.specs.Sizes.{Sizes}

@@ -1,23 +1,17 @@
 -- Worked journals of renewals: each is legal, and next to it stands a changed one that isn't.
-use Rattle.std.specs.Prelude.{◌≡◌, ℕ, Bool, true, false, List, [], ◌∷◌, ◌++◌, None, Some, codes, map, reverse}
+use Rattle.std.specs.Prelude.{ℕ, false, List, [], ◌∷◌, ◌++◌, codes, map}
 use Rattle.mqtt_packet.specs.declared.qos.Qos.{Qos}
 use Rattle.mqtt_packet.specs.declared.qos.Qos.TheVariants.{AtMostOnce, AtLeastOnce, ExactlyOnce}
-use Rattle.mqtt_packet.specs.declared.packet.Packet.{Packet}
 use Rattle.mqtt_packet.specs.declared.packet.Packet.TheVariants as p
 use Rattle.mqtt_packet.specs.declared.will.Ask.{Ask}
-use Rattle.agent_journal.specs.declared.request.Request.{Request}
 use Rattle.agent_journal.specs.declared.request.Request.TheVariants as requests
-use Rattle.agent_journal.specs.declared.outcome.Outcome.{Outcome}
 use Rattle.agent_journal.specs.declared.outcome.Outcome.TheVariants as o
 use Rattle.agent_journal.specs.declared.entry.Cause.TheVariants as c
 use Rattle.agent_journal.specs.declared.entry.Why.TheVariants as w
 use Rattle.agent_journal.specs.declared.entry.Entry.{Entry}
 use Rattle.agent_journal.specs.declared.effect.Effect.{Effect}
 use Rattle.agent_journal.specs.declared.effect.Effect.TheVariants as f
-use Rattle.agent_journal.specs.declared.setup.Setup.{Setup}
-use Rattle.agent_table.specs.Histories.{IsLegal, readings, due_by}
-use Rattle.agent_table.specs.Sizes.{Sizes}
-use Rattle.agent_table.specs.Worked.{usual, at, arrives, opens, begins, takes, sends, Legal}
+use Rattle.agent_table.specs.Worked.{at, arrives, opens, begins, takes, sends, Legal}
 
 abbrev pub ask : List ℕ → Qos → Ask
 ask topics qos = record { filter = topics; qos = qos }

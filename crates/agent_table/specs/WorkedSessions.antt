@@ -1,13 +1,7 @@
 -- Worked journals of sessions and room: each is legal, and next to it stands a changed one that isn't.
-use Rattle.std.specs.Prelude.{◌≡◌, ℕ, Bool, true, false, List, [], ◌∷◌, ◌++◌, None, Some, codes, map, reverse}
-use Rattle.mqtt_packet.specs.declared.qos.Qos.{Qos}
-use Rattle.mqtt_packet.specs.declared.qos.Qos.TheVariants.{AtMostOnce, AtLeastOnce, ExactlyOnce}
-use Rattle.mqtt_packet.specs.declared.packet.Packet.{Packet}
+use Rattle.std.specs.Prelude.{◌≡◌, ℕ, Bool, true, false, List, [], ◌∷◌, ◌++◌, None, codes, map}
+use Rattle.mqtt_packet.specs.declared.qos.Qos.TheVariants.{AtLeastOnce, ExactlyOnce}
 use Rattle.mqtt_packet.specs.declared.packet.Packet.TheVariants as p
-use Rattle.mqtt_packet.specs.declared.will.Ask.{Ask}
-use Rattle.agent_journal.specs.declared.request.Request.{Request}
-use Rattle.agent_journal.specs.declared.request.Request.TheVariants as requests
-use Rattle.agent_journal.specs.declared.outcome.Outcome.{Outcome}
 use Rattle.agent_journal.specs.declared.outcome.Outcome.TheVariants as o
 use Rattle.agent_journal.specs.declared.entry.Cause.TheVariants as c
 use Rattle.agent_journal.specs.declared.entry.Why.TheVariants as w
@@ -15,8 +9,7 @@ use Rattle.agent_journal.specs.declared.entry.Entry.{Entry}
 use Rattle.agent_journal.specs.declared.effect.Effect.{Effect}
 use Rattle.agent_journal.specs.declared.effect.Effect.TheVariants as f
 use Rattle.agent_journal.specs.declared.setup.Setup.{Setup}
-use Rattle.agent_table.specs.Histories.{IsLegal, readings, due_by}
-use Rattle.agent_table.specs.Sizes.{Sizes}
+use Rattle.agent_table.specs.Histories.{IsLegal}
 use Rattle.agent_table.specs.Identifiers.{fresh}
 use Rattle.agent_table.specs.Worked.{usual, tiny, at, arrives, opens, begins, finishes, request, packet, takes, sends, agent, Legal}
 

@@ -1,13 +1,8 @@
 -- Worked journals of times and breaks: each is legal, and next to it stands a changed one that isn't.
-use Rattle.std.specs.Prelude.{◌≡◌, ℕ, Bool, true, false, List, [], ◌∷◌, ◌++◌, None, Some, codes, map, reverse}
-use Rattle.mqtt_packet.specs.declared.qos.Qos.{Qos}
-use Rattle.mqtt_packet.specs.declared.qos.Qos.TheVariants.{AtMostOnce, AtLeastOnce, ExactlyOnce}
-use Rattle.mqtt_packet.specs.declared.packet.Packet.{Packet}
+use Rattle.std.specs.Prelude.{◌≡◌, ℕ, false, List, [], ◌∷◌, None, Some}
+use Rattle.mqtt_packet.specs.declared.qos.Qos.TheVariants.{AtLeastOnce}
 use Rattle.mqtt_packet.specs.declared.packet.Packet.TheVariants as p
-use Rattle.mqtt_packet.specs.declared.will.Ask.{Ask}
-use Rattle.agent_journal.specs.declared.request.Request.{Request}
 use Rattle.agent_journal.specs.declared.request.Request.TheVariants as requests
-use Rattle.agent_journal.specs.declared.outcome.Outcome.{Outcome}
 use Rattle.agent_journal.specs.declared.outcome.Outcome.TheVariants as o
 use Rattle.agent_journal.specs.declared.entry.Cause.TheVariants as c
 use Rattle.agent_journal.specs.declared.entry.Why.TheVariants as w
@@ -16,7 +11,6 @@ use Rattle.agent_journal.specs.declared.effect.Effect.{Effect}
 use Rattle.agent_journal.specs.declared.effect.Effect.TheVariants as f
 use Rattle.agent_journal.specs.declared.setup.Setup.{Setup}
 use Rattle.agent_table.specs.Histories.{IsLegal, readings, due_by}
-use Rattle.agent_table.specs.Sizes.{Sizes}
 use Rattle.agent_table.specs.Worked.{usual, at, arrives, opens, begins, request, packet, takes, sends, agent, Legal, asks}
 
 -- ---- A keep alive of a second: the PINGREQ is due half of it behind the last packet that was sent
