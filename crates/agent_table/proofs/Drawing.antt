@@ -1,5 +1,5 @@
 -- What a Take opens has the fresh identifier.
-use Rattle.std.proofs.Common.{◌≡◌, ◌⊎◌, ℕ, Bool, true, false, cond, List, [], ◌∷◌, Option, Some, None, refl, ◌∙◌, subst}
+use Rattle.std.proofs.Common.{◌≡◌, ◌⊎◌, ℕ, Bool, true, false, cond, List, [], ◌∷◌, Option, Some, None, refl, ◌∙◌, subst, ap}
 use Rattle.std.specs.Prelude.{nat_lt, nat_le, length}
 use mathlib.Core.Logic.{inl, inr}
 use Rattle.mqtt_packet.specs.declared.qos.Qos.{Qos}
@@ -8,15 +8,19 @@ use Rattle.mqtt_packet.specs.declared.packet.Packet.TheVariants as p
 use Rattle.agent_journal.specs.declared.request.Request.{Request}
 use Rattle.agent_journal.specs.declared.request.Request.TheVariants as requests
 use Rattle.agent_journal.specs.declared.outcome.Outcome.TheVariants as o
+use Rattle.agent_journal.specs.declared.entry.Cause.{Cause}
 use Rattle.agent_journal.specs.declared.entry.Cause.TheVariants as c
+use Rattle.agent_journal.specs.declared.entry.Entry.{Entry}
 use Rattle.agent_journal.specs.declared.effect.Effect.{Effect}
 use Rattle.agent_journal.specs.declared.effect.Effect.TheVariants as f
 use Rattle.agent_journal.specs.declared.setup.Setup.{Setup}
 use Rattle.agent_journal.specs.declared.setup.Phase.{Phase}
 use Rattle.agent_journal.specs.declared.setup.Phase.TheVariants.{Down, Opening, Up, Spilled, Off}
-use Rattle.agent_journal.specs.Readings.{sent_id}
+use Rattle.agent_journal.specs.Readings.{Pending, opens, opened_by, sent_id}
 use Rattle.agent_table.specs.Effects.{close, fresh_id}
-use Rattle.agent_table.specs.Histories.{effects_of}
+use Rattle.agent_table.specs.Histories.{readings, row, effects_of}
+use Rattle.agent_table.specs.Laws.{IsOneOf}
+use Rattle.agent_table.specs.Meanings.{CommandsDrawFresh}
 use Rattle.agent_table.specs.Readings.{Readings}
 use Rattle.agent_table.specs.Rows.{Row, when}
 use Rattle.agent_table.specs.Sizes.{Sizes}
@@ -95,3 +99,25 @@ module _ (r : Readings) where
 
   pub take_draws : (s : Setup) (l : Sizes) (at task seq : ℕ) (request : Request) (effects : List Effect) → effects_of (row_of s l r at (c.Take task seq request)) ≡ Some effects → Draws effects
   take_draws s l at task seq request effects e = draws_found (row_of s l r at (c.Take task seq request)) effects e (draws_row s l at task seq request)
+
+-- ---- Of a legal journal
+
+by_id : (r : Readings) (command : Pending) (task seq : ℕ) (request : Request) (id : Option ℕ) → (id ≡ None) ⊎ (id ≡ Some (fresh_id r)) → IsOneOf command (opened_by task seq request id) → command.id ≡ fresh_id r
+by_id r command task seq request None draws one = absurd one
+by_id r command task seq request (Some id) (inl none) one = absurd (cc none)
+by_id r command task seq request (Some id) (inr is) (inl same) = let number : id ≡ fresh_id r = cc in ap (λ (x : Pending). x.id) same ∙ number
+by_id r command task seq request (Some id) (inr is) (inr one) = absurd one
+
+by_cause : (s : Setup) (l : Sizes) (past : List Entry) (command : Pending) (at : ℕ) (cause : Cause) (effects : List Effect) → effects_of (row s l past at cause) ≡ Some effects → IsOneOf command (opens cause effects)
+    → command.id ≡ fresh_id (readings s l past)
+by_cause s l past command at c.Opened effects has one = absurd one
+by_cause s l past command at (c.Take task seq request) effects has one =
+    by_id (readings s l past) command task seq request (sent_id effects) (take_draws (readings s l past) s l at task seq request effects has) one
+by_cause s l past command at (c.Arrived packet) effects has one = absurd one
+by_cause s l past command at (c.Broke why) effects has one = absurd one
+by_cause s l past command at c.Tick effects has one = absurd one
+by_cause s l past command at c.GaveUp effects has one = absurd one
+by_cause s l past command at c.Finish effects has one = absurd one
+
+pub commands_draw_fresh : CommandsDrawFresh
+commands_draw_fresh s l past e legal command one = by_cause s l past command e.at e.cause e.effects legal.0 one

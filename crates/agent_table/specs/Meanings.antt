@@ -7,12 +7,13 @@ use Rattle.agent_journal.specs.declared.entry.Cause.{Cause}
 use Rattle.agent_journal.specs.declared.entry.Cause.TheVariants as c
 use Rattle.agent_journal.specs.declared.entry.Entry.{Entry}
 use Rattle.agent_journal.specs.declared.setup.Setup.{Setup}
-use Rattle.agent_journal.specs.Readings.{Pending, pending_of, accepts, accepted_of}
+use Rattle.agent_journal.specs.Readings.{Pending, opens, pending_of, accepts, accepted_of}
 use Rattle.agent_journal.specs.Wires.{is_opened, sends}
 use Rattle.agent_table.specs.Awaiting.{is_release_of}
 use Rattle.agent_table.specs.Deliveries.{is_among, is_exactly_once, publishes, released_of, held_of}
-use Rattle.agent_table.specs.Histories.{IsLegalPast}
-use Rattle.agent_table.specs.Identifiers.{behind, fresh}
+use Rattle.agent_table.specs.Effects.{used}
+use Rattle.agent_table.specs.Histories.{IsLegalPast, readings}
+use Rattle.agent_table.specs.Identifiers.{last_drawn_of, behind, fresh}
 use Rattle.agent_table.specs.Laws.{IsOneOf, WasReceived}
 use Rattle.agent_table.specs.Sends.{sends_received, sends_ping}
 use Rattle.agent_table.specs.Sessions.{is_first, loses_session, ping_of}
@@ -100,6 +101,13 @@ IsFirstUnused last used id = (k : ℕ) × (id ≡ further k (behind last)) × (i
 
 abbrev pub FreshIsFirstUnused : Type 0
 FreshIsFirstUnused = (last : ℕ) (used : List ℕ) → last ≤ 65535 → length used < 65535 → IsFirstUnused last used (fresh last used)
+
+-- In a legal journal each command that a Take opens has the fresh identifier: of those that no open command and no open renewal
+-- had before.
+abbrev pub CommandsDrawFresh : Type 0
+CommandsDrawFresh =
+    (s : Setup) (l : Sizes) (past : List Entry) (e : Entry) → IsLegalPast s l (e ∷ past) → (command : Pending) → IsOneOf command (opens e.cause e.effects)
+    → command.id ≡ fresh (last_drawn_of past) (used (readings s l past))
 
 -- ---- Released publishes (section 4.3.3)
 
