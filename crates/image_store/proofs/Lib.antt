@@ -2,3 +2,4 @@ mod Ranges
 mod Pieces
 mod Standing
 mod Putting
+mod Histories

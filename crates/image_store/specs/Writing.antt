@@ -1,5 +1,5 @@
 -- A writer of an image: which job it serves, and which blocks are missing.
-use Rattle.std.specs.Prelude.{◌≡◌, ℕ, ◌==◌, nat_lt, Bool, true, false, List, length, set, Option, Some, None, Result, Ok, Err, if◌then◌else◌}
+use Rattle.std.specs.Prelude.{◌≡◌, ℕ, ◌==◌, nat_lt, Bool, false, List, length, set, Option, Some, None, Result, Ok, Err, if◌then◌else◌}
 use Rattle.agent_link.specs.declared.fault.Fault.{Fault}
 use Rattle.image_store.specs.Banks.{Shape, Contents, written, tested}
 use Rattle.image_store.specs.Images.{blocks_in, len_of}

@@ -98,7 +98,7 @@ impl Writer {
     }
 
     /// Writes a block into its place in the bank. All blocks count as before but one that is `New`, which
-    /// is there from then on.
+    /// is there from then on. Of the blocks that were put a repeat is one too.
     ///
     /// # Errors
     /// `File`, `Index` and `Length`, in this order, where a field isn't the job's. `Bank` and `NoMemory`
@@ -116,7 +116,8 @@ impl Writer {
         ensures again { IfOk (checked self.old file index (length payload.now)) (λ i. get_or self.old.missing i false ≡ false → result ≡ Ok Put.Again) }
         ensures taken { IfOk (checked self.old file index (length payload.now)) (λ i. get_or self.old.missing i false ≡ true → IsWriting result) }
         ensures writer { self.new ≡ after_put result index self.old }
-        ensures stands { (bs : List (ℕ × List ℕ)) → IsOf bs self.old (B.contents bank.old) → IsOf (put_behind bs result index payload.now) self.new (B.contents bank.new) }
+        ensures stands { (bs : List (ℕ × List ℕ)) → IsOf bs self.old (B.contents bank.old)
+            → IsOf (put_behind bs result index payload.now) self.new (B.contents bank.new) }
         ensures shape { B.shape bank.new ≡ B.shape bank.old }
         ensures contents { Placed result (index * self.old.block) payload.now (B.contents bank.old) (B.contents bank.new) }
         ensures cause { Counted (IsErrOf result PutFault.Bank) (B.faults bank.old) (B.faults bank.new) }
@@ -140,7 +141,8 @@ impl Writer {
         ensures again { get_or self.old.missing index false ≡ false → result ≡ Ok Put.Again }
         ensures taken { get_or self.old.missing index false ≡ true → IsWriting result }
         ensures writer { self.new ≡ after_put result index self.old }
-        ensures stands { (bs : List (ℕ × List ℕ)) → IsOf bs self.old (B.contents bank.old) → IsOf (put_behind bs result index payload.now) self.new (B.contents bank.new) }
+        ensures stands { (bs : List (ℕ × List ℕ)) → IsOf bs self.old (B.contents bank.old)
+            → IsOf (put_behind bs result index payload.now) self.new (B.contents bank.new) }
         ensures shape { B.shape bank.new ≡ B.shape bank.old }
         ensures contents { Placed result (index * self.old.block) payload.now (B.contents bank.old) (B.contents bank.new) }
         ensures cause { Counted (IsErrOf result PutFault.Bank) (B.faults bank.old) (B.faults bank.new) }
@@ -162,8 +164,9 @@ impl Writer {
         ensures missing { IfOk result (λ v. missing_of v ≡ first self.old.missing) }
         ensures judged { IfOk result (λ v. (bytes : List ℕ) → fresh_of (B.contents bank.old) ≡ Some bytes → IsJudged v self.old.digest (sha256 bytes)) }
         ensures wanted { IfOk result (λ v. (found : List ℕ) × IsJudged v self.old.digest found) }
-        ensures whole { IfOk result (λ v. missing_of v ≡ None → (bs : List (ℕ × List ℕ)) (bytes : List ℕ) → IsOf bs self.old (B.contents bank.old)
-            → fresh_of (B.contents bank.new) ≡ Some bytes → image bs self.old.size self.old.block ≡ Some bytes) }
+        ensures whole { IfOk result (λ v. missing_of v ≡ None → (bs : List (ℕ × List ℕ)) (bytes : List ℕ)
+            → IsOf bs self.old (B.contents bank.old) → fresh_of (B.contents bank.new) ≡ Some bytes
+            → image bs self.old.size self.old.block ≡ Some bytes) }
         ensures writer { self.new ≡ self.old }
         ensures shape { B.shape bank.new ≡ after_verdict result (B.shape bank.old) }
         ensures contents { B.contents bank.new ≡ B.contents bank.old }
