@@ -6,11 +6,10 @@ ghost use Rattle.plain_text.specs.Reading.{Gives};
 ghost use Rattle.agent_script.specs.Steps as steps;
 
 use crate::requests::{publish_of, subscribe_of, unsubscribe_of};
-use agent_journal::Request;
 use crate::script::{Line, Step};
+use agent_journal::Request;
 use list_types::{Blob, Text};
-use plain_text::number_in;
-use plain_text::{Refusal, last_at, payload_of, word_at};
+use plain_text::{Refusal, last_at, number_in, payload_of, word_at};
 use std::alloc::Global;
 
 /// The longest payload of a request, in bytes.

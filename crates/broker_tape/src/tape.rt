@@ -6,8 +6,7 @@ ghost use Rattle.broker_tape.specs.Tape as tapes;
 ghost use Rattle.broker_tape.specs.TapeReading.{Tells, IsLineWithin};
 
 use list_types::{Blob, Seq};
-use plain_text::number_in;
-use plain_text::{Refusal, is_passed, last_at, line_at, payload_of, word_at};
+use plain_text::{Refusal, is_passed, last_at, line_at, number_in, payload_of, word_at};
 use std::alloc::{AllocFailed, Global};
 
 /// One line of a tape.

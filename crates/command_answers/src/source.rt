@@ -27,7 +27,7 @@ pub fn source_text<S: Source, O: Sink>(
     ensures untouched { OnOk result (out.new ≡ out.old) }
     ensures ends { IfErr result (λ status. (to : List ℕ → Answer) →
         EndsBySource status (source_now (S.left source.old) (S.faults source.old)) (source_now (S.left source.new) (S.faults source.new))
-            (sink_now (O.written out.old) (O.faults out.old)) (sink_now (O.written out.new) (O.faults out.new)) (within_limit to)) }
+        (sink_now (O.written out.old) (O.faults out.old)) (sink_now (O.written out.new) (O.faults out.new)) (within_limit to)) }
     ensures no_words { IfErr result (λ status. status ≢ 1) }
     ensures source_fault { IfErr result (λ status. status ≡ 9 → S.faults source.new ≡ raised (S.faults source.old)) }
 {

@@ -5,10 +5,10 @@ ghost use Rattle.agent_journal.specs.Sound.{IsSoundEntry};
 
 use super::*;
 use agent_journal::{Entry, Setup};
-use journal_text::write_entry;
 use agent_link::MemSink;
 use agent_script::read_script;
 use broker_tape::read_tape;
+use journal_text::write_entry;
 use list_types::Text;
 use std::alloc::Global;
 use std::test::Fail;

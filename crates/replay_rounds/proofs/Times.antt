@@ -41,7 +41,7 @@ round_read w steady going h few =
     let u = record w { clock = after_reading w.clock } in
     let there : Contains readings (next_time w) = last_reading w.clock.step w.clock.calls in
     let before : AreReadings readings v.past =
-      acts_on (next_time w) (λ x. AreReadings readings x.past) (kept readings (next_time w) there) u (later_readings w.clock.step w.clock.calls w.past (h both.0)) in
+    acts_on (next_time w) (λ x. AreReadings readings x.past) (kept readings (next_time w) there) u (later_readings w.clock.step w.clock.calls w.past (h both.0)) in
     subst (λ told. AreReadings told v.past) (sym both.1) before
 
 pub read_after : (n : ℕ) (w : World) → IsSteady w → IsRead w → IsRead (after n w)

@@ -13,8 +13,8 @@ ghost use Rattle.replay_run.specs.Answers.{replay_answer};
 ghost use Rattle.replay_run.specs.Headline.{PrintsHistory};
 
 use crate::report::report_of;
-use agent_script::Script;
 use agent_link::{Page, Sink};
+use agent_script::Script;
 use broker_tape::Tape;
 use command_answers::finish;
 use command_words::RunWords;

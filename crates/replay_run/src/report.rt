@@ -10,8 +10,8 @@ ghost use Rattle.journal_text.specs.Texts.{journal_text, entry_text, last_line};
 ghost use Rattle.replay_run.specs.Answers.{task_line, kinds_of, kinds_line, report};
 
 use agent_journal::{Cause, Effect, Ending, Entry, Request};
-use journal_text::{Part, write_entry, write_parts};
 use agent_link::{Fault, Page, Sink};
+use journal_text::{Part, write_entry, write_parts};
 use list_types::Text;
 use replay_agent::Replayed;
 use std::alloc::Global;

@@ -2,8 +2,7 @@
 
 use super::*;
 use agent_journal::{Cause, Effect, Entry, Message, Request};
-use agent_script::{Script, Step};
-use agent_script::read_script;
+use agent_script::{Script, Step, read_script};
 use list_types::{Blob, Seq, Text};
 use mqtt_packet::Qos;
 use std::alloc::{AllocError, Global};

@@ -11,8 +11,7 @@ use crate::images::digest_of;
 use crate::offers::{Offer, is_repeat};
 use device_docs::Job;
 use list_types::Text;
-use plain_text::number_in;
-use plain_text::{Refusal, last_at, text_of, word_at};
+use plain_text::{Refusal, last_at, number_in, text_of, word_at};
 use std::alloc::Global;
 use thing_topics::is_thing;
 

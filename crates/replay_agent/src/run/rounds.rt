@@ -11,8 +11,8 @@ ghost use Rattle.replay_rounds.proofs.Ends.{IsSteady};
 use crate::run::Run;
 use agent_core::Core;
 use agent_journal::{Cause, Phase, Why};
-use agent_script::Script;
 use agent_link::{Clock, Fault, Link};
+use agent_script::Script;
 use mqtt_packet::{NoMemory, Splitter};
 use std::alloc::AllocError;
 
