@@ -16,7 +16,7 @@ use Rattle.agent_journal.specs.declared.effect.Effect.TheVariants as f
 use Rattle.agent_journal.specs.declared.setup.Setup.{Setup}
 use Rattle.agent_journal.specs.declared.setup.Phase.{Phase}
 use Rattle.agent_journal.specs.declared.setup.Phase.TheVariants.{Down, Opening, Up, Spilled, Off}
-use Rattle.agent_journal.specs.Readings.{Pending, opens, opened_by, sent_id}
+use Rattle.agent_journal.specs.Readings.{Pending, opens, opened_by, sent_filters, sent_id}
 use Rattle.agent_table.specs.Effects.{close, fresh_id}
 use Rattle.agent_table.specs.Histories.{readings, row, effects_of}
 use Rattle.agent_table.specs.Laws.{IsOneOf}
@@ -102,17 +102,17 @@ module _ (r : Readings) where
 
 -- ---- Of a legal journal
 
-by_id : (r : Readings) (command : Pending) (task seq : ℕ) (request : Request) (id : Option ℕ) → (id ≡ None) ⊎ (id ≡ Some (fresh_id r)) → IsOneOf command (opened_by task seq request id) → command.id ≡ fresh_id r
-by_id r command task seq request None draws one = absurd one
-by_id r command task seq request (Some id) (inl none) one = absurd (cc none)
-by_id r command task seq request (Some id) (inr is) (inl same) = let number : id ≡ fresh_id r = cc in ap (λ (x : Pending). x.id) same ∙ number
-by_id r command task seq request (Some id) (inr is) (inr one) = absurd one
+by_id : (r : Readings) (command : Pending) (task seq : ℕ) (request : Request) (filters : List (List ℕ)) (id : Option ℕ) → (id ≡ None) ⊎ (id ≡ Some (fresh_id r)) → IsOneOf command (opened_by task seq request filters id) → command.id ≡ fresh_id r
+by_id r command task seq request filters None draws one = absurd one
+by_id r command task seq request filters (Some id) (inl none) one = absurd (cc none)
+by_id r command task seq request filters (Some id) (inr is) (inl same) = let number : id ≡ fresh_id r = cc in ap (λ (x : Pending). x.id) same ∙ number
+by_id r command task seq request filters (Some id) (inr is) (inr one) = absurd one
 
 by_cause : (s : Setup) (l : Sizes) (past : List Entry) (command : Pending) (at : ℕ) (cause : Cause) (effects : List Effect) → effects_of (row s l past at cause) ≡ Some effects → IsOneOf command (opens cause effects)
     → command.id ≡ fresh_id (readings s l past)
 by_cause s l past command at c.Opened effects has one = absurd one
 by_cause s l past command at (c.Take task seq request) effects has one =
-    by_id (readings s l past) command task seq request (sent_id effects) (take_draws (readings s l past) s l at task seq request effects has) one
+    by_id (readings s l past) command task seq request (sent_filters effects) (sent_id effects) (take_draws (readings s l past) s l at task seq request effects has) one
 by_cause s l past command at (c.Arrived packet) effects has one = absurd one
 by_cause s l past command at (c.Broke why) effects has one = absurd one
 by_cause s l past command at c.Tick effects has one = absurd one
