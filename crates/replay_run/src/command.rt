@@ -30,7 +30,7 @@ use thing_script::{LineFault, with_topics};
 /// was asked to, 3 where it gave up its link, 4 where the broker refused it, 5 where the broker's bytes were wrong, and 6 where
 /// the broker held an old session; 2 where the source has a bad line or too many bytes, 7 where memory ran out, 8 where the
 /// sink failed, and 9 where the source failed.
-#[tactic(auto, using(crate::proofs::Told::source_told, crate::proofs::Printed::prints_replay))]
+#[tactic(auto, using(crate::proofs::Printed::prints_replay))]
 pub fn replay_command<S: Source, O: Sink>(
     alloc: Global,
     words: &RunWords,
@@ -45,6 +45,25 @@ pub fn replay_command<S: Source, O: Sink>(
     // Where an agent ran, what is written is one legal history of it.
     ensures history { HasRun result →
         PrintsReplay words.now (S.left source.old) result (O.written out.old) (O.written out.new) }
+    ensures no_words { result ≢ 1 }
+    ensures source_fault { result ≡ 9 → S.faults source.new ≡ raised (S.faults source.old) }
+{
+    replay_source(alloc, words, source, out)
+}
+
+/// Reads the source to its end and replays its text.
+#[tactic(auto, using(crate::proofs::Told::source_told))]
+fn replay_source<S: Source, O: Sink>(
+    alloc: Global,
+    words: &RunWords,
+    source: &mut S,
+    out: &mut O,
+) -> u8
+    requires client { is_client words.now.client ≡ true }
+    requires reopen { words.now.reopen ≤ 4294967294 }
+    ensures ends { EndsBySource result (source_now (S.left source.old) (S.faults source.old)) (source_now (S.left source.new) (S.faults source.new))
+        (sink_now (O.written out.old) (O.faults out.old))
+        (sink_now (O.written out.new) (O.faults out.new)) (answers.source_answer words.now) }
     ensures no_words { result ≢ 1 }
     ensures source_fault { result ≡ 9 → S.faults source.new ≡ raised (S.faults source.old) }
 {
