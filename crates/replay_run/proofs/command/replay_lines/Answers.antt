@@ -13,5 +13,5 @@ pub returns-in-Err-Line-clause-ends : goal.returns-in-Err-Line-clause-ends
 returns-in-Err-Line-clause-ends g c =
     let number = c.in-Err-Line.number in
     let told : script_with c.args.words.now.thing c.args.script ≡ Err number =
-      subst (λ t. script_with t c.args.script ≡ Err number) c.thing_of.ensures (subst (λ fault. Tells (Err fault) (script_with (option_copied c.thing_of.result) c.args.script)) c.in-Err-Line.field-0-is c.in-Err-Line.ensures.script) in
+    subst (λ t. script_with t c.args.script ≡ Err number) c.thing_of.ensures (subst (λ fault. Tells (Err fault) (script_with (option_copied c.thing_of.result) c.args.script)) c.in-Err-Line.field-0-is c.in-Err-Line.ensures.script) in
     topic_told c.args.words.now c.args.text.now c.args.script _ number c.refuse_line-in-Err-Line.result _ _ _ _ c.if-script-ne1.false told (rw c.in-Err-Line.field-0-is at c.refuse_line-in-Err-Line.ensures.ends)
