@@ -26,7 +26,8 @@ use Rattle.agent_core.specs.Stands.{StandsFor}
 use Rattle.agent_core.proofs.Standing.{rows_are_same}
 use Rattle.agent_table.specs.Rows.{Row}
 use Rattle.replay_rounds.specs.World.{World, row_in, settled}
-use Rattle.replay_rounds.specs.Entering.{entry, noted, noted_by, failed, onto_wire, sends, sends_some, entered, entered_by}
+use Rattle.agent_ties.specs.Seen.{entry}
+use Rattle.replay_rounds.specs.Entering.{noted, noted_by, failed, onto_wire, sends, sends_some, entered, entered_by}
 use Rattle.replay_rounds.specs.Lines.{is_closed}
 use Rattle.agent_table.specs.Endings.{ending_of}
 use Rattle.replay_agent.specs.declared.run.Run.{Run}

@@ -19,7 +19,8 @@ use Rattle.agent_core.specs.Stands.{StandsFor}
 use Rattle.replay_rounds.specs.World.{World}
 use Rattle.replay_rounds.specs.Asked.{IsValidLine, taken_and_left}
 use Rattle.agent_table.specs.Endings.{ending_of}
-use Rattle.replay_rounds.specs.Rounds.{begun, fresh, has_ended}
+use Rattle.replay_rounds.specs.Rounds.{begun, has_ended}
+use Rattle.agent_ties.specs.Seen.{fresh}
 use Rattle.replay_rounds.specs.Bound.{bound, finished}
 use Rattle.replay_rounds.proofs.Asked.{IsAsking}
 use Rattle.replay_rounds.proofs.AskedAll.{few_asked, off_has_ending, ended_is_off}

@@ -31,15 +31,18 @@ use Rattle.agent_table.specs.Readings.{at_most}
 use Rattle.agent_table.specs.Rows.{Row}
 use Rattle.replay_rounds.specs.Asked.{IsValidLine, IsValidStep, leave_of, taken_and_left}
 use Rattle.replay_rounds.specs.World.{World, phase_in, row_in}
-use Rattle.replay_rounds.specs.Entering.{entry, noted, failed, entered, entered_by}
+use Rattle.agent_ties.specs.Seen.{entry, fresh}
+use Rattle.replay_rounds.specs.Entering.{noted, failed, entered, entered_by}
 use Rattle.replay_rounds.specs.Receiving.{hands, idles, received_by, receives}
 use Rattle.replay_rounds.specs.Lines.{Told, passes, passes_step, submits, is_none_open, takes_step, takes_by, takes, told_up, told_off, ends_step, ends_by, ends}
-use Rattle.replay_rounds.specs.Rounds.{fresh, opened_by, opening, acts_in, acts_by, acts, has_ended}
-use Rattle.replay_rounds.proofs.Dues.{NoneDue, none_due, found_by, IsDue, one_of}
+use Rattle.replay_rounds.specs.Rounds.{opened_by, opening, acts_in, acts_by, acts, has_ended}
+use Rattle.replay_rounds.proofs.Dues.{NoneDue, none_due}
+use Rattle.agent_ties.proofs.Dues.{IsDue, one_of}
+use Rattle.agent_ties.proofs.Seen.{found_by}
 use Rattle.replay_rounds.proofs.Kept.{IsCarried, noted_on, sends_on, entered_on, hands_on, idles_on}
 use Rattle.replay_rounds.proofs.Moments.{IsTimely}
 use Rattle.replay_rounds.proofs.Takes.{passed, phase_same, timely_passed, due_moves, not_left, none_open}
-use Rattle.replay_rounds.proofs.TakeRows.{taken_up, taken_off}
+use Rattle.agent_ties.proofs.TakeRows.{taken_up, taken_off}
 
 -- ---- Entries that take nothing
 

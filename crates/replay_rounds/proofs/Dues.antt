@@ -13,12 +13,15 @@ use Rattle.agent_table.specs.Breaks.{is_absent}
 use Rattle.agent_table.specs.Histories.{readings, due_by}
 use Rattle.agent_table.specs.Rows.{Row}
 use Rattle.agent_table.specs.Sessions.{ping_of, while_connected}
+use Rattle.agent_ties.proofs.Seen.{found_by}
+use Rattle.agent_ties.proofs.Dues.{none_of, IsDue, one_of}
 use Rattle.replay_rounds.specs.World.{World, phase_in, row_in}
-use Rattle.replay_rounds.specs.Entering.{entry, entered}
+use Rattle.agent_ties.specs.Seen.{entry}
+use Rattle.replay_rounds.specs.Entering.{entered}
 use Rattle.replay_rounds.specs.Bound.{ping_weight, phase_weight}
 use Rattle.replay_rounds.proofs.Kept.{Any, entered_on}
 use Rattle.replay_rounds.proofs.Moments.{Lands, entered_lands}
-use Rattle.replay_rounds.proofs.Rows.{in_time, fault_phase, finish_leads, keep_alive_leads, tick_leads, gave_up_leads, in_full_leads}
+use Rattle.agent_ties.proofs.Rows.{in_time, fault_phase, finish_leads, keep_alive_leads, tick_leads, gave_up_leads, in_full_leads}
 use Rattle.replay_rounds.proofs.Tamed.{Tamed, tamed, itself, Fewer, by_phase, rounds_in, down_weighs, off_weighs, spilled_weighs, up_weighs}
 
 -- ---- None is due
@@ -28,14 +31,6 @@ pub record NoneDue (now : ℕ) (w : World) : Type 0 where
   pub gave_up : is_some (row_in w now c.GaveUp) ≡ false
   pub in_full : is_some (row_in w now (c.Broke InFull)) ≡ false
 
-none_of : (a b d e f : Bool) → cond a (Some c.Finish) (cond b (Some (c.Broke KeepAlive)) (cond d (Some c.Tick) (cond e (Some c.GaveUp) (cond f (Some (c.Broke InFull)) None)))) ≡ None → (a ≡ false) × (e ≡ false) × (f ≡ false)
-none_of true b d e f h = absurd (cc h)
-none_of false true d e f h = absurd (cc h)
-none_of false false true e f h = absurd (cc h)
-none_of false false false true f h = absurd (cc h)
-none_of false false false false true h = absurd (cc h)
-none_of false false false false false h = (refl, refl, refl)
-
 pub none_due : (now : ℕ) (w : World) → due_by w.setup w.sizes (readings w.setup w.sizes w.past) now ≡ None → NoneDue now w
 none_due now w e =
     let all =
@@ -44,24 +39,6 @@ none_due now w e =
     record { finish = all.0; gave_up = all.1; in_full = all.2 }
 
 -- ---- One is due
-
-abbrev pub IsDue : (Cause → Bool) → Cause → Type 0
-IsDue found cause =
-    ((cause ≡ c.Finish) × (found c.Finish ≡ true)) ⊎ (((cause ≡ c.Broke KeepAlive) × (found (c.Broke KeepAlive) ≡ true)) ⊎ (((cause ≡ c.Tick) × (found c.Tick ≡ true))
-    ⊎ (((cause ≡ c.GaveUp) × (found c.GaveUp ≡ true)) ⊎ ((cause ≡ c.Broke InFull) × (found (c.Broke InFull) ≡ true)))))
-
-pub one_of : (found : Cause → Bool) (a b d e f : Bool) (cause : Cause) → found c.Finish ≡ a → found (c.Broke KeepAlive) ≡ b → found c.Tick ≡ d → found c.GaveUp ≡ e → found (c.Broke InFull) ≡ f
-    → cond a (Some c.Finish) (cond b (Some (c.Broke KeepAlive)) (cond d (Some c.Tick) (cond e (Some c.GaveUp) (cond f (Some (c.Broke InFull)) None)))) ≡ Some cause → IsDue found cause
-one_of found true b d e f cause ea eb ed ee ef h = inl (cc h, ea)
-one_of found false true d e f cause ea eb ed ee ef h = inr (inl (cc h, eb))
-one_of found false false true e f cause ea eb ed ee ef h = inr (inr (inl (cc h, ed)))
-one_of found false false false true f cause ea eb ed ee ef h = inr (inr (inr (inl (cc h, ee))))
-one_of found false false false false true cause ea eb ed ee ef h = inr (inr (inr (inr (cc h, ef))))
-one_of found false false false false false cause ea eb ed ee ef h = absurd (cc h)
-
-pub found_by : (r : Option Row) → is_some r ≡ true → (row : Row) × (r ≡ Some row)
-found_by None e = absurd (cc e)
-found_by (Some row) e = (row, refl)
 
 -- where an entry leads for sure
 pub leads_down : (past : List Entry) (phase : Phase) (v : World) → phase ≡ Down → Lands past phase v → phase_in v ≡ Down

@@ -23,7 +23,7 @@ use Rattle.replay_rounds.proofs.Kept.{acts_on}
 use Rattle.replay_rounds.proofs.Moments.{IsTimely, timely_kept}
 use Rattle.replay_rounds.proofs.Openings.{opening_fewer}
 use Rattle.replay_rounds.proofs.Receives.{receives_fewer}
-use Rattle.replay_rounds.proofs.Rows.{in_full_there}
+use Rattle.agent_ties.proofs.Rows.{in_full_there}
 use Rattle.replay_rounds.proofs.Takes.{takes_fewer, ends_fewer}
 use Rattle.replay_rounds.proofs.Tamed.{Fewer}
 

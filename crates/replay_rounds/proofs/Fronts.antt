@@ -22,10 +22,12 @@ use Rattle.agent_table.specs.Ties.{EachTied}
 use Rattle.replay_rounds.specs.World.{World}
 use Rattle.replay_rounds.specs.Entering.{failed}
 use Rattle.replay_rounds.specs.Receiving.{received_by, receives}
-use Rattle.replay_rounds.specs.Rounds.{fresh, opened_by, opening, round, has_ended, after, begun}
+use Rattle.agent_ties.specs.Seen.{fresh}
+use Rattle.replay_rounds.specs.Rounds.{opened_by, opening, round, has_ended, after, begun}
 use Rattle.replay_rounds.specs.Laws.{ReplaysHearTheirTape}
 use Rattle.replay_rounds.proofs.Kept.{IsCarried, Any, entered_on, noted_on, hands_on, idles_on, IsWalked, walk_on}
-use Rattle.replay_rounds.proofs.Wires.{TiedBut, each_tied, one_more, turned, bytes_on}
+use Rattle.agent_ties.specs.Wired.{TiedBut}
+use Rattle.agent_ties.proofs.Wires.{each_tied, one_more, turned, bytes_on}
 
 -- ---- Items
 

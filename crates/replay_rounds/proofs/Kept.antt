@@ -29,10 +29,11 @@ use Rattle.agent_table.specs.Readings.{at_most}
 use Rattle.agent_table.specs.Rows.{Row}
 use Rattle.agent_table.specs.Ties.{listens, is_bad_bytes}
 use Rattle.replay_rounds.specs.World.{World, phase_in, row_in, shut, shut_in, settled}
-use Rattle.replay_rounds.specs.Entering.{entry, noted, noted_by, failed, onto_wire, sends, entered, entered_by}
+use Rattle.agent_ties.specs.Seen.{entry, fresh}
+use Rattle.replay_rounds.specs.Entering.{noted, noted_by, failed, onto_wire, sends, entered, entered_by}
 use Rattle.replay_rounds.specs.Receiving.{handed, hands, idles, received_by, receives}
 use Rattle.replay_rounds.specs.Lines.{Told, passes, passes_step, submits, is_none_open, takes_step, takes_by, takes, told_up, told_off, ends_step, ends_by, ends}
-use Rattle.replay_rounds.specs.Rounds.{fresh, opened_by, opening, acts_in, acts_by, acts}
+use Rattle.replay_rounds.specs.Rounds.{opened_by, opening, acts_in, acts_by, acts}
 
 -- A property that entries of rows at this time carry on, for such causes, and what is sent and heard leaves. An arrived
 -- packet is such a cause, and so are bytes that are none. The entry of a fault stands behind the link's count of it.

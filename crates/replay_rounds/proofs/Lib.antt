@@ -1,6 +1,5 @@
 pub mod Kept
 pub mod Legal
-pub mod Rows
 pub mod Weights
 pub mod Tamed
 pub mod Receives
@@ -9,17 +8,10 @@ pub mod Takes
 pub mod Openings
 pub mod Moments
 pub mod Ends
-pub mod TakeRows
 pub mod Asked
 pub mod AskedAll
 pub mod Stays
-pub mod Wires
-pub mod Sends
 pub mod Seen
-pub mod Wired
-pub mod Heard
-pub mod Listening
-pub mod Handed
 pub mod Given
 pub mod Tied
 pub mod TiedRounds

@@ -13,9 +13,10 @@ use Rattle.agent_journal.specs.Wires.{sent_in}
 use Rattle.agent_table.specs.Histories.{phase_by, phase_of, readings}
 use Rattle.agent_table.specs.Rows.{Row}
 use Rattle.replay_rounds.specs.World.{World, phase_in, row_in, shut_in, settled}
-use Rattle.replay_rounds.specs.Entering.{entry, noted, noted_by, failed, onto_wire, sends, entered, entered_by}
+use Rattle.agent_ties.specs.Seen.{entry}
+use Rattle.replay_rounds.specs.Entering.{noted, noted_by, failed, onto_wire, sends, entered, entered_by}
 use Rattle.replay_rounds.proofs.Kept.{IsKept}
-use Rattle.replay_rounds.proofs.Rows.{Within, row_fits, in_time, fault_leads, fault_phase}
+use Rattle.agent_ties.proofs.Rows.{Within, row_fits, in_time, fault_leads, fault_phase}
 
 pub record IsTimely (now : ℕ) (w : World) : Type 0 where
   pub time : last_time_of w.past ≤ now

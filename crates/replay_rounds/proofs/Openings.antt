@@ -12,33 +12,23 @@ use Rattle.agent_table.specs.Histories.{readings}
 use Rattle.agent_table.specs.Readings.{at_most}
 use Rattle.agent_table.specs.Rows.{Row}
 use Rattle.agent_table.specs.Sessions.{ping_of}
+use Rattle.agent_ties.proofs.Present.{opens_few}
 use Rattle.replay_rounds.specs.World.{World, phase_in, row_in}
 use Rattle.replay_rounds.specs.Entering.{noted, failed, entered}
-use Rattle.replay_rounds.specs.Rounds.{fresh, opened_by, opening}
+use Rattle.agent_ties.specs.Seen.{fresh}
+use Rattle.replay_rounds.specs.Rounds.{opened_by, opening}
 use Rattle.replay_rounds.specs.Bound.{weights, phase_weight}
 use Rattle.replay_rounds.proofs.Dues.{NoneDue}
 use Rattle.replay_rounds.proofs.Kept.{Any, entered_on, noted_on}
 use Rattle.replay_rounds.proofs.Moments.{IsTimely, noted_past, noted_phase}
-use Rattle.replay_rounds.proofs.Rows.{Within, fault_there, gave_up_there}
+use Rattle.agent_ties.proofs.Rows.{Within, fault_there, gave_up_there}
+use Rattle.replay_rounds.proofs.Seen.{seen}
 use Rattle.replay_rounds.proofs.Tamed.{Tamed, tamed, itself, Fewer, by_item, by_phase, rounds_in}
 use Rattle.replay_rounds.proofs.Weights.{begun_less, opens_less}
 
 -- Where nothing is due in Down, another opening may fail.
 pub may_fail : (now : ℕ) (w : World) → IsTimely now w → NoneDue now w → phase_in w ≡ Down → breaks_of w.past ≤ w.setup.reopen
-may_fail now w h due down =
-    elim (cases_lt w.setup.reopen (breaks_of w.past)) [
-      | inl more ↦ absurd (cc (sym due.gave_up ∙ gave_up_there w.setup w.sizes (readings w.setup w.sizes w.past) now h.time down (last more)))
-      | inr less ↦ less
-    ]
-  where
-    within : breaks_of w.past ≤ w.setup.reopen + 1
-    within = subst (Within w.setup (breaks_of w.past)) down h.fits
-
-    last : w.setup.reopen < breaks_of w.past → nat_eq (at_most (w.setup.reopen + 2) (breaks_of w.past)) (w.setup.reopen + 1) ≡ true
-    last more =
-        let few = within in
-        let same : at_most (w.setup.reopen + 2) (breaks_of w.past) ≡ breaks_of w.past = ap (λ b. cond b (breaks_of w.past) (w.setup.reopen + 2)) (le-leb (breaks_of w.past) (w.setup.reopen + 2) (omega (arith, few))) in
-        eq-eqb (at_most (w.setup.reopen + 2) (breaks_of w.past)) (w.setup.reopen + 1) (omega (arith, same, few, more))
+may_fail now w h due down = opens_few now (seen w) h.time due.gave_up down (subst (Within w.setup (breaks_of w.past)) down h.fits)
 
 down_is : (w : World) → phase_in w ≡ Down → rounds_in w ≡ 2 + (w.setup.reopen + 1 - breaks_of w.past)
 down_is w e = ap (phase_weight w.setup.reopen (breaks_of w.past) (ping_of w.past)) e

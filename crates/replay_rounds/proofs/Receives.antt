@@ -20,7 +20,7 @@ use Rattle.replay_rounds.specs.Receiving.{hands, idles, received_by, receives}
 use Rattle.replay_rounds.specs.Bound.{weights}
 use Rattle.replay_rounds.proofs.Kept.{Any, hands_on, idles_on, noted_on}
 use Rattle.replay_rounds.proofs.Moments.{IsTimely, noted_phase}
-use Rattle.replay_rounds.proofs.Rows.{end_opening, end_up}
+use Rattle.agent_ties.proofs.Rows.{end_opening, end_up}
 use Rattle.replay_rounds.proofs.Tamed.{Tamed, tamed, itself, Fewer, by_item, by_phase, rounds_in, down_weighs, opening_weighs, up_weighs}
 use Rattle.replay_rounds.proofs.Weights.{Lowers, hears_less}
 

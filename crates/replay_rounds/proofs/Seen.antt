@@ -23,37 +23,18 @@ use Rattle.agent_table.specs.Readings.{Readings, at_most}
 use Rattle.agent_table.specs.Rows.{Row}
 use Rattle.agent_table.specs.Sends.{has_send, is_some_packet}
 use Rattle.agent_table.specs.Sizes.{Sizes}
+use Rattle.agent_ties.proofs.Seen.{faults_behind}
 use Rattle.replay_rounds.specs.World.{World, phase_in, row_in, shut_in, settled}
-use Rattle.replay_rounds.specs.Entering.{entry, noted, noted_by, failed, onto_wire, sends_some, entered, entered_by}
+use Rattle.agent_ties.specs.Seen.{entry, Seen, with_entry, with_bytes}
+use Rattle.replay_rounds.specs.Entering.{noted, noted_by, failed, onto_wire, sends_some, entered, entered_by}
 use Rattle.replay_rounds.specs.Entering as entering
 use Rattle.replay_rounds.proofs.Moments.{with_row, phase_row}
-use Rattle.replay_rounds.proofs.Rows.{timely, in_time}
-use Rattle.replay_rounds.proofs.Wires.{onto_nothing}
-use Rattle.replay_rounds.proofs.Sends.{Silent, nothing, down_mild}
-
-pub record Seen : Type 0 where
-  pub setup : Setup
-  pub sizes : Sizes
-  pub past : List Entry
-  pub taken : List (List ℕ)
-  pub given : List (List ℕ)
-  pub stream : Stream
+use Rattle.agent_ties.proofs.Rows.{timely, in_time}
+use Rattle.agent_ties.proofs.Wires.{onto_nothing}
+use Rattle.agent_ties.proofs.Sends.{Silent, nothing, down_mild}
 
 abbrev pub seen : World → Seen
 seen w = record { setup = w.setup; sizes = w.sizes; past = w.past; taken = w.taken; given = w.given; stream = w.stream }
-
-abbrev pub phase_seen : Seen → Phase
-phase_seen v = phase_of v.setup v.sizes v.past
-
-abbrev pub row_seen : Seen → ℕ → Cause → Option Row
-row_seen v at cause = row v.setup v.sizes v.past at cause
-
--- an entry more, and bytes more on the present connection
-abbrev pub with_entry : Seen → ℕ → Cause → Row → Seen
-with_entry v at cause found = record v { past = entry at cause found ∷ v.past }
-
-abbrev pub with_bytes : Seen → List ℕ → Seen
-with_bytes v bytes = record v { taken = onto_last v.taken bytes }
 
 -- ---- What isn't seen
 
@@ -76,46 +57,9 @@ pub noted_seen : (P : Seen → Type 0) (now : ℕ) (w : World) (cause : Cause) �
     → P (seen (noted w now cause))
 noted_seen P now w cause none some = noted_of P now w cause (row_in w now cause) refl none some
 
--- ---- Behind an entry that sends, a fault has a row
-
-send_there : (effects : List Effect) (b : ℕ) (bytes : List ℕ) → sent_in effects ≡ b ∷ bytes → has_send effects ≡ true
-send_there effects b bytes e = by (sends effects) e
-  where
-    by : (packets : _) → flat_map spelling packets ≡ b ∷ bytes → is_some_packet packets ≡ true
-    by [] e = absurd (cc e)
-    by (packet ∷ packets) e = refl
-
-no_breaks : (cause : Cause) (breaks : ℕ) → accepts cause ≡ true → breaks_behind cause breaks ≡ 0
-no_breaks cause breaks e = ap (λ b. cond b 0 (cond (is_break cause) (breaks + 1) breaks)) e
-
-few_breaks : (reopen : ℕ) → nat_le (at_most (reopen + 2) 0) reopen ≡ true
-few_breaks reopen = ap (λ b. nat_le (cond b 0 (reopen + 2)) reopen) (le-leb 0 (reopen + 2) (omega arith)) ∙ le-leb 0 reopen (omega arith)
-
 module _ (now : ℕ) (w : World) (cause : Cause) (found : Row) (e : row_in w now cause ≡ Some found) where
   abbrev pub behind : World
   behind = with_row w now cause found
-
-  abbrev r : Readings
-  r = readings behind.setup behind.sizes behind.past
-
-  may_open : found.phase ≡ Down → (b : ℕ) (bytes : List ℕ) → sent_in found.effects ≡ b ∷ bytes → nat_le r.breaks behind.setup.reopen ≡ true
-  may_open is b bytes some = by (down_mild w.setup w.sizes (readings w.setup w.sizes w.past) now cause found (in_time w.setup w.sizes (readings w.setup w.sizes w.past) now cause found e) is)
-    where
-      by : Silent found.effects ⊎ (accepts cause ≡ true) → nat_le r.breaks behind.setup.reopen ≡ true
-      by (inl silent) = absurd (cc (sym (nothing found.effects silent) ∙ some))
-      by (inr accepted) = ap (λ n. nat_le (at_most (behind.setup.reopen + 2) n) behind.setup.reopen) (no_breaks cause (breaks_of w.past) accepted) ∙ few_breaks behind.setup.reopen
-
-  faults_in : (phase : Phase) → found.phase ≡ phase → (b : ℕ) (bytes : List ℕ) → sent_in found.effects ≡ b ∷ bytes → is_some (fault_row behind.setup r phase) ≡ true
-  unfolding fault_row
-  faults_in Down is b bytes some = rw (may_open is b bytes some) refl
-  faults_in Opening is b bytes some = refl
-  faults_in Up is b bytes some = refl
-  faults_in Spilled is b bytes some = refl
-  faults_in Off is b bytes some = rw (send_there found.effects b bytes some) refl
-
-  pub faults_behind : (b : ℕ) (bytes : List ℕ) → sent_in found.effects ≡ b ∷ bytes → is_some (row_in behind now (c.Broke why.Fault)) ≡ true
-  faults_behind b bytes some =
-      ap is_some (timely behind.setup behind.sizes r now (c.Broke why.Fault) (omega arith)) ∙ ap (λ phase. is_some (fault_row behind.setup r phase)) (phase_row now w cause found e) ∙ faults_in found.phase refl b bytes some
 
   -- ---- What an entry leaves: all of its packets on the wire, or less and a fault
 
@@ -124,7 +68,7 @@ module _ (now : ℕ) (w : World) (cause : Cause) (found : Row) (e : row_in w now
       (part : (k : ℕ) (second : Row) → k < length (sent_in found.effects) → row_in behind now (c.Broke why.Fault) ≡ Some second
       → P (with_entry (with_bytes (with_entry (seen w) now cause found) (take k (sent_in found.effects))) now (c.Broke why.Fault) second)) where
     none_there : (b : ℕ) (bytes : List ℕ) → sent_in found.effects ≡ b ∷ bytes → row_in behind now (c.Broke why.Fault) ≡ None → ⊥
-    none_there b bytes some none = cc (sym (faults_behind b bytes some) ∙ ap is_some none)
+    none_there b bytes some none = cc (sym (faults_behind now (seen w) cause found e b bytes some) ∙ ap is_some none)
 
     some_sent : (less : Bool) (fits b : ℕ) (bytes : List ℕ) → sent_in found.effects ≡ b ∷ bytes → nat_lt fits (length (b ∷ bytes)) ≡ less
         → P (seen (cond less (noted (failed (onto_wire (record behind { idle = 0 }) (take fits (b ∷ bytes)))) now (c.Broke why.Fault)) (settled (onto_wire (record behind { idle = 0 }) (b ∷ bytes)))))

@@ -21,7 +21,8 @@ use Rattle.agent_table.specs.Sends.{sends_ping}
 use Rattle.agent_table.specs.Sessions.{ping_of, or_at}
 use Rattle.agent_table.specs.Takes.{may_take}
 use Rattle.replay_rounds.specs.World.{World, phase_in, row_in, shut_in}
-use Rattle.replay_rounds.specs.Entering.{entry, entered_by}
+use Rattle.agent_ties.specs.Seen.{entry}
+use Rattle.replay_rounds.specs.Entering.{entered_by}
 use Rattle.replay_rounds.specs.Receiving.{receives}
 use Rattle.replay_rounds.specs.Lines.{Told, passes, passes_step, submits, is_none_open, takes_step, takes_by, takes, told_up, told_off, ends_step, ends_by, ends}
 use Rattle.replay_rounds.specs.Bound.{ping_weight, leave_weight, weights, bound}
@@ -29,7 +30,7 @@ use Rattle.replay_rounds.proofs.Dues.{NoneDue, leads_off}
 use Rattle.replay_rounds.proofs.Kept.{Any, entered_on}
 use Rattle.replay_rounds.proofs.Moments.{IsTimely, Lands, entered_lands, timely_kept}
 use Rattle.replay_rounds.proofs.Receives.{receives_fewer}
-use Rattle.replay_rounds.proofs.Rows.{TakenIn, take_leads, in_time, finish_there, leave_up, leave_off, fault_phase}
+use Rattle.agent_ties.proofs.Rows.{TakenIn, take_leads, in_time, finish_there, leave_up, leave_off, fault_phase}
 use Rattle.replay_rounds.proofs.Tamed.{Tamed, tamed, itself, Fewer, by_rest, rounds_in, down_weighs, off_weighs, up_weighs}
 
 -- ---- Lines that are passed over

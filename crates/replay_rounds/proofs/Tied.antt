@@ -16,33 +16,27 @@ use Rattle.agent_journal.specs.Wires.{is_opened, sent_in}
 use Rattle.agent_table.specs.Histories.{readings}
 use Rattle.agent_table.specs.Rows.{Row}
 use Rattle.agent_table.specs.Ties.{Moment, arrived, listens, is_bad_bytes, Rejects}
+use Rattle.agent_ties.specs.Ties.{Ties, Handing}
+use Rattle.agent_ties.proofs.Present.{packet_row}
+use Rattle.agent_ties.proofs.Keeping.{plain_whole, plain_part, broke_ties, packet_whole, packet_part}
 use Rattle.replay_rounds.specs.World.{World, phase_in, row_in}
 use Rattle.replay_rounds.specs.Entering.{entered, entered_by, noted}
 use Rattle.broker_tape.specs.Given.{GivesBytes}
 use Rattle.replay_rounds.specs.Receiving.{handed}
-use Rattle.replay_rounds.proofs.Dues.{found_by}
+use Rattle.agent_ties.proofs.Seen.{found_by}
 use Rattle.replay_rounds.proofs.Given.{closed_gives}
-use Rattle.replay_rounds.proofs.Handed.{shorter, next_spells, next_bad, next_long, none_left, one_left, rejected, arrived_on, arrived_cut, rejected_on}
-use Rattle.replay_rounds.proofs.Heard.{AreHeard, AreHanding, IsGoing, IsPlain, heard_on}
+use Rattle.agent_ties.proofs.Handed.{shorter, next_spells, next_bad, next_long, none_left, one_left, rejected, arrived_on, arrived_cut, rejected_on}
+use Rattle.agent_ties.specs.Heard.{AreHeard, AreHanding, IsGoing, IsPlain}
+use Rattle.agent_ties.proofs.Heard.{heard_on}
 use Rattle.replay_rounds.proofs.Kept.{IsCarried, Any, entered_on, noted_on}
-use Rattle.replay_rounds.proofs.Listening.{arrived_some, bytes_some, bytes_away}
-use Rattle.replay_rounds.proofs.Rows.{timely, in_time}
-use Rattle.replay_rounds.proofs.Seen.{Seen, seen, row_seen, with_entry, noted_seen, entered_seen}
-use Rattle.replay_rounds.proofs.Sends.{nothing, broke_silent}
-use Rattle.replay_rounds.proofs.Wired.{AreWired, wired_on, parts_on, cut_on}
-use Rattle.replay_rounds.proofs.Wires.{onto_nothing}
-
--- between two entries of a round
-pub record Ties (v : Seen) : Type 0 where
-  pub wired : AreWired v
-  pub heard : AreHeard v
-
--- while packets of this stream are handed in
-pub record Handing (now : ℕ) (stream : Stream) (v : Seen) : Type 0 where
-  pub wired : AreWired v
-  pub handing : AreHanding v
-  pub same : v.stream ≡ stream
-  pub time : last_time_of v.past ≤ now
+use Rattle.agent_ties.proofs.Listening.{arrived_some, bytes_some, bytes_away}
+use Rattle.agent_ties.proofs.Rows.{timely, in_time}
+use Rattle.agent_ties.specs.Seen.{Seen, row_seen, with_entry}
+use Rattle.replay_rounds.proofs.Seen.{seen, noted_seen, entered_seen}
+use Rattle.agent_ties.proofs.Sends.{nothing, broke_silent}
+use Rattle.agent_ties.specs.Wired.{AreWired}
+use Rattle.agent_ties.proofs.Wired.{wired_on, parts_on, cut_on, noted_wired}
+use Rattle.agent_ties.proofs.Wires.{onto_nothing}
 
 pub record Holds (w : World) : Type 0 where
   pub ties : Ties (seen w)
@@ -67,12 +61,7 @@ module _ (now : ℕ) where
 
   entered_ties : (w : World) (cause : Cause) (found : Row) → row_in w now cause ≡ Some found → is_opened cause ≡ false → IsPlain cause → Ties (seen w) → Ties (seen (entered w now cause))
   entered_ties w cause found e other plain h =
-      entered_seen now w cause found e Ties (record { wired = wired_on now (seen w) cause found e other h.wired; heard = heard_on now (seen w) cause found e other plain h.heard })
-      (λ k second less is.
-      record {
-        wired = cut_on now (seen w) cause found e k second (onto_last w.taken (take k (sent_in found.effects))) less is (parts_on now (seen w) cause found e other h.wired k less);
-        heard = heard_on now (with_entry (seen w) now cause found) (c.Broke why.Fault) second is refl (refl, refl) (heard_on now (seen w) cause found e other plain h.heard);
-      })
+      entered_seen now w cause found e Ties (plain_whole now (seen w) cause found e other plain h) (plain_part now (seen w) cause found e other plain h)
 
   entered_of : (w : World) (cause : Cause) (r : Option Row) → row_in w now cause ≡ r → is_opened cause ≡ false → IsPlain cause → Ties (seen w) → Ties (seen (entered w now cause))
   entered_of w cause None e other plain h = subst (λ r. Ties (seen (entered_by w now cause r))) (sym e) h
@@ -82,18 +71,12 @@ module _ (now : ℕ) where
   entered_holds w cause other plain h =
       record { ties = entered_of w cause (row_in w now cause) refl other plain h.ties; gives = entered_on now Any (λ v. GivesBytes v.items) gives_on w cause tt h.gives }
 
-  noted_wired : (v : Seen) (reason : Why) (found : Row) → row_seen v now (c.Broke reason) ≡ Some found → AreWired v → AreWired (with_entry v now (c.Broke reason) found)
-  noted_wired v reason found e h =
-      let q = readings v.setup v.sizes v.past in
-      let none = nothing found.effects (broke_silent v.setup v.sizes q now reason found (in_time v.setup v.sizes q now (c.Broke reason) found e)) in
-      subst (λ ws. AreWired (record (with_entry v now (c.Broke reason) found) { taken = ws })) (ap (onto_last v.taken) none ∙ onto_nothing v.taken) (wired_on now v (c.Broke reason) found e refl h)
-
   pub noted_holds : (w : World) (reason : Why) → is_bad_bytes reason ≡ false → Holds w → Holds (noted w now (c.Broke reason))
   noted_holds w reason plain h =
       record {
         ties =
             noted_seen Ties now w (c.Broke reason) (λ none. h.ties)
-            (λ found e. record { wired = noted_wired (seen w) reason found e h.ties.wired; heard = heard_on now (seen w) (c.Broke reason) found e refl (refl, plain) h.ties.heard });
+            (λ found e. broke_ties now (seen w) reason found e plain h.ties);
         gives = noted_on now Any (λ v. GivesBytes v.items) gives_on w (c.Broke reason) tt h.gives;
       }
 
@@ -104,26 +87,10 @@ module _ (now : ℕ) where
     abbrev u : World
     u = record w { stream = new }
 
-    packet_row : (packet : Packet) → (answers.Packet packet, new) ≡ next_of w.stream → (found : Row) × (row_in u now (c.Arrived packet) ≡ Some found)
-    packet_row packet e =
-        let spells = next_spells w.stream new ms bs going packet e in
-        found_by (row_in u now (c.Arrived packet))
-        (ap is_some (timely u.setup u.sizes (readings u.setup u.sizes u.past) now (c.Arrived packet) time)
-        ∙ arrived_some u.setup u.sizes (readings u.setup u.sizes u.past) packet (spelled_are_sound packet spells.0 spells.1).0 on)
-
     packet_in : (packet : Packet) → (answers.Packet packet, new) ≡ next_of w.stream → Handing now new (seen (entered u now (c.Arrived packet)))
     packet_in packet e =
-        let (found, is) = packet_row packet e in
-        let left = one_left (seen w) on new handing packet e in
-        entered_seen now u (c.Arrived packet) found is (Handing now new)
-        (record { wired = wired_on now (seen u) (c.Arrived packet) found is refl wired; handing = arrived_on now (seen u) packet found is left; same = refl; time = omega arith })
-        (λ k second less there.
-        record {
-          wired = cut_on now (seen u) (c.Arrived packet) found is k second (onto_last w.taken (take k (sent_in found.effects))) less there (parts_on now (seen u) (c.Arrived packet) found is refl wired k less);
-          handing = arrived_cut now (seen u) packet found is left (onto_last w.taken (take k (sent_in found.effects))) second there;
-          same = refl;
-          time = omega arith;
-        })
+        let (found, is) = packet_row now (seen w) new on time ms bs going packet e in
+        entered_seen now u (c.Arrived packet) found is (Handing now new) (packet_whole now (seen w) new packet found on wired handing e is) (packet_part now (seen w) new packet found on wired handing e is)
 
     bad_row : (reason : Why) → is_bad_bytes reason ≡ true → (found : Row) → row_in u now (c.Broke reason) ≡ Some found → listens found.phase ≡ false
     bad_row why.Fault bad found e = absurd (cc bad)
@@ -148,7 +115,7 @@ module _ (now : ℕ) where
     bad_in : (reason : Why) → is_bad_bytes reason ≡ true → ((xs : List Moment) (ys : List ℕ) → IsGoing w.stream xs ys → Rejects ys (arrived xs) reason) → Ties (seen (noted u now (c.Broke reason)))
     bad_in reason bad says =
         noted_seen Ties now u (c.Broke reason) (λ none. absurd (bad_there reason bad none))
-        (λ found e. record { wired = noted_wired (seen u) reason found e wired; heard = rejected_on now (seen u) reason found e (bad_row reason bad found e) (rejected (seen w) on new handing reason says) })
+        (λ found e. record { wired = noted_wired now (seen u) reason found e wired; heard = rejected_on now (seen u) reason found e (bad_row reason bad found e) (rejected (seen w) on new handing reason says) })
 
     pub handed_in : (rest : World → World) (next : Next) → (next, new) ≡ next_of w.stream → ((v : World) → Handing now new (seen v) → length new.rest < length w.stream.rest → Ties (seen (rest v))) → Ties (seen (handed w now rest (next, new)))
     handed_in rest (answers.Packet packet) e on_rest = on_rest (entered u now (c.Arrived packet)) (packet_in packet e) (shorter w.stream new ms bs packet going e)

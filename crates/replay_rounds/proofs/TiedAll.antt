@@ -7,29 +7,29 @@ use Rattle.agent_journal.specs.declared.setup.Setup.{Setup}
 use Rattle.agent_journal.specs.Wires.{connections, Wired, AreReadings}
 use Rattle.agent_table.specs.Sizes.{Sizes}
 use Rattle.agent_table.specs.Ties.{stages, Heard, IsCounted, IsTied}
+use Rattle.agent_ties.proofs.Whole.{ties_are_whole}
 use Rattle.replay_rounds.specs.World.{World}
 use Rattle.broker_tape.specs.Given.{GivesBytes}
 use Rattle.replay_rounds.specs.Rounds.{after, begun}
 use Rattle.replay_rounds.proofs.Counted.{counted_after}
 use Rattle.replay_rounds.proofs.Ends.{begun_steady}
-use Rattle.replay_rounds.proofs.Heard.{LastHeard, IsHandedIn, is_heard}
-use Rattle.replay_rounds.proofs.Seen.{seen, phase_seen}
+use Rattle.agent_ties.specs.Heard.{LastHeard, IsHandedIn}
+use Rattle.agent_ties.proofs.Heard.{is_heard}
+use Rattle.replay_rounds.proofs.Seen.{seen}
+use Rattle.agent_ties.specs.Seen.{phase_seen}
 use Rattle.replay_rounds.proofs.Stays.{after_of}
-use Rattle.replay_rounds.proofs.Tied.{Ties}
+use Rattle.agent_ties.specs.Ties.{Ties}
 use Rattle.replay_rounds.proofs.TiedRounds.{ties_after}
 use Rattle.replay_rounds.proofs.Times.{HasReadings, read_after, has_readings}
-use Rattle.replay_rounds.proofs.Wired.{LastWired, is_wired}
-use Rattle.replay_rounds.proofs.Wires.{each_tied}
+use Rattle.agent_ties.specs.Wired.{LastWired}
+use Rattle.agent_ties.proofs.Wired.{is_wired}
+use Rattle.agent_ties.proofs.Wires.{each_tied}
 
 tied_of : (w : World) (readings : List ℕ) → Ties (seen w) → AreReadings readings w.past → IsCounted w.past uncounted w.counts
     → IsTied w.setup w.sizes w.past w.taken w.given readings uncounted w.counts
 tied_of w readings h times counts =
-    record {
-      wired = each_tied Wired (LastWired (phase_seen (seen w))) (is_wired (phase_seen (seen w))) (connections w.past) w.taken h.wired;
-      heard = each_tied Heard (LastHeard IsHandedIn (phase_seen (seen w)) w.stream) (is_heard (phase_seen (seen w)) w.stream) (stages w.setup w.sizes w.past) w.given h.heard;
-      times = times;
-      counts = counts;
-    }
+    let whole = ties_are_whole (seen w) h in
+    record { wired = whole.0; heard = whole.1; times = times; counts = counts }
 
 -- A replay behind so many rounds, with the readings of its clock.
 pub record IsTiedWorld (setup : Setup) (sizes : Sizes) (w : World) : Type 0 where

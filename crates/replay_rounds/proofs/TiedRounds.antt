@@ -33,59 +33,34 @@ use Rattle.agent_table.specs.Readings.{at_most}
 use Rattle.agent_table.specs.Rows.{Row}
 use Rattle.agent_table.specs.Sizes.{Sizes}
 use Rattle.agent_table.specs.Ties.{Moment, moment, stages, listens}
+use Rattle.agent_ties.proofs.Present.{going_there, opened_there}
+use Rattle.agent_ties.proofs.Keeping.{first_whole, first_part}
 use Rattle.replay_rounds.specs.World.{World, phase_in, row_in}
 use Rattle.replay_rounds.specs.Entering.{entered, noted, failed}
 use Rattle.broker_tape.specs.Given.{GivesBytes}
 use Rattle.replay_rounds.specs.Lines.{told_up, told_off, passes, submits, is_none_open, takes_step, takes_by, takes, ends_step, ends_by, ends}
 use Rattle.replay_rounds.specs.Receiving.{handed, hands, idles, received_by, receives}
-use Rattle.replay_rounds.specs.Rounds.{fresh, opened_by, opening, acts_in, acts_by, acts, round, has_ended, after}
-use Rattle.replay_rounds.proofs.Dues.{NoneDue, none_due, IsDue, one_of, found_by}
+use Rattle.agent_ties.specs.Seen.{fresh, Seen, phase_seen, with_entry}
+use Rattle.replay_rounds.specs.Rounds.{opened_by, opening, acts_in, acts_by, acts, round, has_ended, after}
+use Rattle.replay_rounds.proofs.Dues.{NoneDue, none_due}
+use Rattle.agent_ties.proofs.Dues.{IsDue, one_of, due_plain}
+use Rattle.agent_ties.proofs.Seen.{found_by}
 use Rattle.replay_rounds.proofs.Ends.{IsSteady, next_time, round_steady}
 use Rattle.replay_rounds.proofs.Given.{opens_gives, hears_gives, present_gives}
-use Rattle.replay_rounds.proofs.Handed.{fed_on, stopped, opened_heard}
-use Rattle.replay_rounds.proofs.Heard.{AreHanding, IsGoing, LastHeard, IsPlain, heard_on, listened}
+use Rattle.agent_ties.proofs.Handed.{fed_on, stopped, opened_heard}
+use Rattle.agent_ties.specs.Heard.{AreHanding, IsGoing, LastHeard, IsPlain}
+use Rattle.agent_ties.proofs.Heard.{heard_on, listened}
 use Rattle.replay_rounds.proofs.Kept.{Any, entered_on, hands_on, passes_with, by_choice}
 use Rattle.replay_rounds.proofs.Moments.{IsTimely, timely_kept}
 use Rattle.replay_rounds.proofs.Openings.{may_fail}
-use Rattle.replay_rounds.proofs.Rows.{timely, in_time, small_reading}
-use Rattle.replay_rounds.proofs.Seen.{Seen, seen, phase_seen, with_entry, entered_seen}
-use Rattle.replay_rounds.proofs.Sends.{is_gone, gone_stays, gone_away}
-use Rattle.replay_rounds.proofs.Tied.{Ties, Holds, gives_on, entered_holds, noted_holds, handed_in}
-use Rattle.replay_rounds.proofs.Wired.{AreWired, cut_on, opened_whole, opened_part}
-use Rattle.replay_rounds.proofs.Wires.{last_there}
-
--- ---- While the agent listens there is a connection
-
-onto_none : {X : Type 0} (xs : List (List X)) (more : List X) → onto_last xs more ≡ [] → xs ≡ []
-onto_none [] more e = refl
-onto_none (x ∷ []) more e = absurd (cc e)
-onto_none (x ∷ y ∷ xs) more e = absurd (cc e)
-
-some_behind : {X : Type 0} (xs : List X) (x : X) → xs ++ x ∷ [] ≡ [] → ⊥
-some_behind [] x e = cc e
-some_behind (y ∷ xs) x e = cc e
-
-module _ (s : Setup) (l : Sizes) (entry : Entry) (past : List Entry) where
-  stays_gone : is_opened entry.cause ≡ false → (r : Option Row) → row s l past entry.at entry.cause ≡ r → is_gone (phase_of s l past) ≡ true → is_gone (phase_by r (phase_of s l past)) ≡ true
-  stays_gone other None is gone = gone
-  stays_gone other (Some found) is gone =
-      (gone_stays s l (readings s l past) entry.at entry.cause found (in_time s l (readings s l past) entry.at entry.cause found is) other gone).1
-
-  none_by : (b : Bool) → is_opened entry.cause ≡ b → (stages s l past ≡ [] → is_gone (phase_of s l past) ≡ true)
-      → cond b (stages s l past ++ (moment s l entry past ∷ []) ∷ []) (onto_last (stages s l past) (moment s l entry past ∷ [])) ≡ [] → is_gone (phase_of s l (entry ∷ past)) ≡ true
-  none_by true is before none = absurd (some_behind (stages s l past) (moment s l entry past ∷ []) none)
-  none_by false is before none = stays_gone is (row s l past entry.at entry.cause) refl (before (onto_none (stages s l past) (moment s l entry past ∷ []) none))
-
-none_gone : (s : Setup) (l : Sizes) (past : List Entry) → stages s l past ≡ [] → is_gone (phase_of s l past) ≡ true
-none_gone s l [] e = refl
-none_gone s l (entry ∷ past) e = none_by s l entry past (is_opened entry.cause) refl (none_gone s l past) e
-
-going_there : (v : Seen) → listens (phase_seen v) ≡ true → AreHanding v → (ms : List Moment) × (bs : List ℕ) × IsGoing v.stream ms bs
-going_there v on h =
-    let (ms, bs, last) =
-    last_there _ (LastHeard IsGoing (phase_seen v) v.stream) (stages v.setup v.sizes v.past) v.given
-    (λ none. cc (sym on ∙ gone_away v.setup v.sizes (readings v.setup v.sizes v.past) 0 (phase_seen v) (none_gone v.setup v.sizes v.past none))) h in
-    (ms, bs, listened IsGoing (phase_seen v) v.stream ms bs on last)
+use Rattle.agent_ties.proofs.Rows.{timely, in_time, small_reading}
+use Rattle.replay_rounds.proofs.Seen.{seen, entered_seen}
+use Rattle.agent_ties.proofs.Sends.{is_gone, gone_stays, gone_away}
+use Rattle.agent_ties.specs.Ties.{Ties}
+use Rattle.replay_rounds.proofs.Tied.{Holds, gives_on, entered_holds, noted_holds, handed_in}
+use Rattle.agent_ties.specs.Wired.{AreWired}
+use Rattle.agent_ties.proofs.Wired.{cut_on, opened_whole, opened_part}
+use Rattle.agent_ties.proofs.Wires.{last_there}
 
 module _ (now : ℕ) where
   -- ---- Receives
@@ -184,26 +159,12 @@ module _ (now : ℕ) where
   -- ---- Openings
 
   module _ (w : World) (h : IsTimely now w) (due : NoneDue now w) (down : phase_in w ≡ Down) where
-    opened_there : (found : Row) × (row_in w now c.Opened ≡ Some found)
-    unfolding opened_row
-    opened_there =
-        let r = readings w.setup w.sizes w.past in
-        found_by (row_in w now c.Opened)
-        (ap is_some (timely w.setup w.sizes r now c.Opened h.time) ∙ ap (λ phase. is_some (opened_row w.setup r phase)) down
-        ∙ rw (le-leb r.breaks w.setup.reopen (small_reading w.setup.reopen (breaks_of w.past) r.breaks refl (may_fail now w h due down))) refl)
-
     opened_ties : (rest : List Item) → Ties (seen w)
         → Ties (seen (entered (record w { items = rest; room = room_at rest; taken = w.taken ++ [] ∷ []; given = w.given ++ [] ∷ []; stream = fresh; idle = 0 }) now c.Opened))
     opened_ties rest t =
         let u = record w { items = rest; room = room_at rest; taken = w.taken ++ [] ∷ []; given = w.given ++ [] ∷ []; stream = fresh; idle = 0 } in
-        let (found, e) = opened_there in
-        let first = opened_heard now (seen w) found e t.heard in
-        entered_seen now u c.Opened found e Ties (record { wired = opened_whole now (seen w) found e t.wired; heard = first })
-        (λ k second less is.
-        record {
-          wired = cut_on now (seen u) c.Opened found e k second (onto_last (w.taken ++ [] ∷ []) (take k (sent_in found.effects))) less is (opened_part now (seen w) found e t.wired k);
-          heard = heard_on now (with_entry (seen u) now c.Opened found) (c.Broke why.Fault) second is refl (refl, refl) first;
-        })
+        let (found, e) = opened_there now (seen w) h.time down (may_fail now w h due down) in
+        entered_seen now u c.Opened found e Ties (first_whole now (seen w) found e t) (first_part now (seen w) found e t)
 
     opened_holds : (next : Bool × List Item) → GivesBytes next.1 → Holds w → Holds (opened_by w now next)
     opened_holds (true, rest) gives holds =
@@ -216,13 +177,6 @@ module _ (now : ℕ) where
     opening_holds holds = opened_holds (opens w.items) (opens_gives w.items holds.gives) holds
 
   -- ---- Rounds
-
-  due_plain : (found : Cause → Bool) (cause : Cause) → IsDue found cause → (is_opened cause ≡ false) × IsPlain cause
-  due_plain found cause (inl h) = subst (λ x. (is_opened x ≡ false) × IsPlain x) (sym h.0) (refl, (refl, refl))
-  due_plain found cause (inr (inl h)) = subst (λ x. (is_opened x ≡ false) × IsPlain x) (sym h.0) (refl, (refl, refl))
-  due_plain found cause (inr (inr (inl h))) = subst (λ x. (is_opened x ≡ false) × IsPlain x) (sym h.0) (refl, (refl, refl))
-  due_plain found cause (inr (inr (inr (inl h)))) = subst (λ x. (is_opened x ≡ false) × IsPlain x) (sym h.0) (refl, (refl, refl))
-  due_plain found cause (inr (inr (inr (inr h)))) = subst (λ x. (is_opened x ≡ false) × IsPlain x) (sym h.0) (refl, (refl, refl))
 
   module _ (w : World) (h : IsTimely now w) (holds : Holds w) where
     in_holds : (phase : Phase) → phase_in w ≡ phase → NoneDue now w → Holds (acts_in w now phase)

@@ -9,10 +9,8 @@ use Rattle.agent_journal.specs.declared.entry.Entry.{Entry}
 use Rattle.agent_journal.specs.declared.entry.Why.TheVariants as why
 use Rattle.agent_journal.specs.Wires.{sent_in}
 use Rattle.agent_table.specs.Rows.{Row}
+use Rattle.agent_ties.specs.Seen.{entry}
 use Rattle.replay_rounds.specs.World.{World, row_in, settled}
-
-abbrev pub entry : ℕ → Cause → Row → Entry
-entry at cause row = record { at = at; cause = cause; effects = row.effects }
 
 abbrev pub noted_by : World → ℕ → Cause → Option Row → World
 noted_by w at cause None = w

@@ -16,14 +16,11 @@ use Rattle.agent_journal.specs.Endings.{is_off}
 use Rattle.agent_journal.specs.Readings.{has_left}
 use Rattle.agent_table.specs.Histories.{due_by, readings}
 use Rattle.agent_table.specs.Sizes.{Sizes}
+use Rattle.agent_ties.specs.Seen.{fresh}
 use Rattle.replay_rounds.specs.World.{World, phase_in}
 use Rattle.replay_rounds.specs.Entering.{entered, noted, failed}
 use Rattle.replay_rounds.specs.Receiving.{receives}
 use Rattle.replay_rounds.specs.Lines.{takes, ends}
-
--- a stream of which nothing has come
-abbrev pub fresh : Kept
-fresh = record { rest = []; at = 0; verdict = None }
 
 abbrev pub opened_by : World → ℕ → Bool × List Item → World
 opened_by w at (true, rest) =

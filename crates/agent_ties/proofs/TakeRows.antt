@@ -13,7 +13,7 @@ use Rattle.agent_table.specs.Readings.{Readings}
 use Rattle.agent_table.specs.Sizes.{Sizes}
 use Rattle.agent_table.specs.Table.{row_of}
 use Rattle.agent_table.specs.Takes as takes
-use Rattle.replay_rounds.proofs.Rows.{timely}
+use Rattle.agent_ties.proofs.Rows.{timely}
 
 module _ (s : Setup) (l : Sizes) (r : Readings) where
   publish_some : (task seq : ℕ) (qos : Qos) (topic payload : List ℕ) → is_some (takes.publish_row l r task seq qos topic payload) ≡ true

@@ -34,7 +34,7 @@ use Rattle.agent_table.specs.Sizes.{Sizes}
 use Rattle.agent_table.specs.Table.{cause_row}
 use Rattle.agent_table.specs.Ties.{listens}
 use Rattle.agent_table.specs.Takes as takes
-use Rattle.replay_rounds.proofs.Rows.{TakenIn, take_leads, finish_leads, tick_leads}
+use Rattle.agent_ties.proofs.Rows.{TakenIn, take_leads, finish_leads, tick_leads}
 
 -- ---- Effects that send nothing
 

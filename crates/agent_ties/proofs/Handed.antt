@@ -21,12 +21,13 @@ use Rattle.agent_journal.specs.declared.setup.Phase.TheVariants.{Down, Opening, 
 use Rattle.agent_table.specs.Histories.{readings}
 use Rattle.agent_table.specs.Rows.{Row}
 use Rattle.agent_table.specs.Ties.{Moment, stages, listens, arrived, has_verdict, Rejects, BeginsWith, Heard}
-use Rattle.replay_rounds.specs.Entering.{entry}
-use Rattle.replay_rounds.specs.Rounds.{fresh}
-use Rattle.replay_rounds.proofs.Rows.{in_time, fault_leads, fault_phase}
-use Rattle.replay_rounds.proofs.Seen.{Seen, phase_seen, row_seen, with_entry}
-use Rattle.replay_rounds.proofs.Heard.{IsGoing, IsHandedIn, LastHeard, AreHeard, AreHanding, listened, told as told_of, is_heard, of_both, arrived_more, quiet_more, on_any, on_last, newest, phase_is}
-use Rattle.replay_rounds.proofs.Wires.{TiedBut, bytes_on, one_more, turned}
+use Rattle.agent_ties.specs.Seen.{entry, fresh, Seen, phase_seen, row_seen, with_entry}
+use Rattle.agent_ties.proofs.Rows.{in_time, fault_leads, fault_phase}
+use Rattle.agent_ties.specs.Heard.{IsGoing, IsHandedIn, LastHeard, AreHeard, AreHanding}
+use Rattle.agent_ties.proofs.Heard.{listened, told as told_of, is_heard, of_both, arrived_more, quiet_more, on_any, on_last, newest}
+use Rattle.agent_ties.proofs.Seen.{phase_is}
+use Rattle.agent_ties.specs.Wired.{TiedBut}
+use Rattle.agent_ties.proofs.Wires.{bytes_on, one_more, turned}
 
 -- ---- One connection
 

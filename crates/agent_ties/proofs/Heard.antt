@@ -15,39 +15,13 @@ use Rattle.agent_table.specs.Histories.{phase_by, readings}
 use Rattle.agent_table.specs.Readings.{Readings}
 use Rattle.agent_table.specs.Rows.{Row}
 use Rattle.agent_table.specs.Ties.{Moment, moment, stages, listens, arrived, is_verdict, has_verdict, HasStopped, BeginsWith, Heard}
-use Rattle.replay_rounds.specs.Entering.{entry}
-use Rattle.replay_rounds.proofs.Rows.{in_time}
-use Rattle.replay_rounds.proofs.Seen.{Seen, phase_seen, row_seen, with_entry}
-use Rattle.replay_rounds.proofs.Sends.{away_stays}
-use Rattle.replay_rounds.proofs.Wires.{TiedBut, entries_on}
-
--- While the agent listens, the stream stands for what came and what was handed in, and goes on.
-pub record IsGoing (stream : Stream) (ms : List Moment) (bs : List ℕ) : Type 0 where
-  pub stands : StandsFor stream bs (arrived ms)
-  pub unended : stream.verdict ≡ None
-  pub quiet : has_verdict ms ≡ false
-
--- all whole packets were handed in
-pub record IsHandedIn (stream : Stream) (ms : List Moment) (bs : List ℕ) : Type 0 where
-  pub going : IsGoing stream ms bs
-  pub tells : Tells bs (arrived ms) answers.More
-
-abbrev pub LastHeard : (Stream → List Moment → List ℕ → Type 0) → Phase → Stream → List Moment → List ℕ → Type 0
-LastHeard Listening Down stream = Heard
-LastHeard Listening Opening stream = Listening stream
-LastHeard Listening Up stream = Listening stream
-LastHeard Listening Spilled stream = Heard
-LastHeard Listening Off stream = Heard
-
-abbrev pub AreTold : (Stream → List Moment → List ℕ → Type 0) → Seen → Type 0
-AreTold Listening v = TiedBut Heard (LastHeard Listening (phase_seen v) v.stream) (stages v.setup v.sizes v.past) v.given
-
--- between two receives, and while packets are handed in
-abbrev pub AreHeard : Seen → Type 0
-AreHeard v = AreTold IsHandedIn v
-
-abbrev pub AreHanding : Seen → Type 0
-AreHanding v = AreTold IsGoing v
+use Rattle.agent_ties.specs.Seen.{entry, Seen, phase_seen, row_seen, with_entry}
+use Rattle.agent_ties.proofs.Rows.{in_time}
+use Rattle.agent_ties.specs.Heard.{IsGoing, IsHandedIn, LastHeard, AreTold, AreHeard, AreHanding, IsPlain}
+use Rattle.agent_ties.proofs.Seen.{phase_is}
+use Rattle.agent_ties.proofs.Sends.{away_stays}
+use Rattle.agent_ties.specs.Wired.{TiedBut}
+use Rattle.agent_ties.proofs.Wires.{entries_on}
 
 pub listened : (L : Stream → List Moment → List ℕ → Type 0) (phase : Phase) (stream : Stream) (ms : List Moment) (bs : List ℕ) → listens phase ≡ true → LastHeard L phase stream ms bs → L stream ms bs
 listened L Down stream ms bs e h = absurd (cc e)
@@ -82,9 +56,6 @@ is_heard Spilled stream ms bs h = h
 is_heard Off stream ms bs h = h
 
 -- ---- One connection, by a moment more
-
-abbrev pub IsPlain : Cause → Type 0
-IsPlain cause = (arrives cause ≡ []) × (is_verdict cause ≡ false)
 
 pub arrived_more : (ms : List Moment) (m : Moment) → arrived (ms ++ m ∷ []) ≡ arrived ms ++ arrives m.entry.cause
 arrived_more ms m = flat_map-append (λ (x : Moment). arrives x.entry.cause) ms (m ∷ []) ∙ ap (λ ps. arrived ms ++ ps) (append-nil (arrives m.entry.cause))
@@ -141,9 +112,6 @@ module _ (now : ℕ) (v : Seen) (cause : Cause) (found : Row) (e : row_seen v no
   abbrev r : Readings
   r = readings v.setup v.sizes v.past
 
-  pub phase_is : phase_seen (with_entry v now cause found) ≡ found.phase
-  phase_is = ap (λ q. phase_by q (phase_seen v)) e
-
   same_stages : is_opened cause ≡ false → stages v.setup v.sizes (entry now cause found ∷ v.past) ≡ onto_last (stages v.setup v.sizes v.past) (newest ∷ [])
   same_stages other = ap (λ b. cond b (stages v.setup v.sizes v.past ++ (newest ∷ []) ∷ []) (onto_last (stages v.setup v.sizes v.past) (newest ∷ []))) other
 
@@ -156,7 +124,7 @@ module _ (now : ℕ) (v : Seen) (cause : Cause) (found : Row) (e : row_seen v no
   pub on_last : (L : Stream → List Moment → List ℕ → Type 0) (Before : List Moment → List ℕ → Type 0) → is_opened cause ≡ false
       → ((ms : List Moment) (bs : List ℕ) → Before ms bs → LastHeard L found.phase v.stream (ms ++ newest ∷ []) bs) → TiedBut Heard Before (stages v.setup v.sizes v.past) v.given → AreTold L (with_entry v now cause found)
   on_last L Before other on h =
-      subst (λ phase. TiedBut Heard (LastHeard L phase v.stream) (stages v.setup v.sizes (entry now cause found ∷ v.past)) v.given) (sym phase_is)
+      subst (λ phase. TiedBut Heard (LastHeard L phase v.stream) (stages v.setup v.sizes (entry now cause found ∷ v.past)) v.given) (sym (phase_is now v cause found e))
       (on_any Before (LastHeard L found.phase v.stream) other on h)
 
   away : is_opened cause ≡ false → listens (phase_seen v) ≡ false → listens found.phase ≡ false

@@ -21,7 +21,7 @@ use Rattle.agent_table.specs.Readings.{Readings}
 use Rattle.agent_table.specs.Rows.{Row, to, when, ends}
 use Rattle.agent_table.specs.Sizes.{Sizes}
 use Rattle.agent_table.specs.Ties.{listens}
-use Rattle.replay_rounds.proofs.Sends.{there, when_of}
+use Rattle.agent_ties.proofs.Sends.{there, when_of}
 
 some_by : (b : Bool) (r q : Option Row) → is_some r ≡ true → is_some q ≡ true → is_some (cond b r q) ≡ true
 some_by true r q h k = h

@@ -3,16 +3,7 @@ use Rattle.std.proofs.Common.{◌≡◌, ℕ, List, [], ◌∷◌, ◌++◌, ref
 use Rattle.std.proofs.lemmas.List.{append-nil}
 use Rattle.agent_link.specs.Wires.{onto_last}
 use Rattle.agent_table.specs.Ties.{EachTied}
-
--- Each connection is tied to its bytes, and the last one in another way.
-abbrev pub TiedBut : {X : Type 0} → (List X → List ℕ → Type 0) → (List X → List ℕ → Type 0) → List (List X) → List (List ℕ) → Type 0
-TiedBut Tie Last [] [] = Unit {0}
-TiedBut Tie Last [] (w ∷ ws) = ⊥
-TiedBut Tie Last (x ∷ xs) [] = ⊥
-TiedBut Tie Last (x ∷ []) (w ∷ []) = Last x w
-TiedBut Tie Last (x ∷ []) (w ∷ v ∷ ws) = ⊥
-TiedBut Tie Last (x ∷ y ∷ xs) (w ∷ []) = ⊥
-TiedBut Tie Last (x ∷ y ∷ xs) (w ∷ v ∷ ws) = Tie x w × TiedBut Tie Last (y ∷ xs) (v ∷ ws)
+use Rattle.agent_ties.specs.Wired.{TiedBut}
 
 pub onto_nothing : {X : Type 0} (ws : List (List X)) → onto_last ws [] ≡ ws
 onto_nothing [] = refl

@@ -6,6 +6,7 @@ use Rattle.agent_link.specs.Wires.{onto_last}
 use Rattle.agent_journal.specs.declared.entry.Cause.{Cause}
 use Rattle.agent_journal.specs.declared.entry.Cause.TheVariants as c
 use Rattle.agent_journal.specs.declared.entry.Entry.{Entry}
+use Rattle.agent_journal.specs.declared.entry.Why.{Why}
 use Rattle.agent_journal.specs.declared.entry.Why.TheVariants as why
 use Rattle.agent_journal.specs.declared.setup.Phase.{Phase}
 use Rattle.agent_journal.specs.declared.setup.Phase.TheVariants.{Down, Opening, Up, Spilled, Off}
@@ -13,26 +14,12 @@ use Rattle.agent_journal.specs.Wires.{connections, is_opened, sent, sent_by, sen
 use Rattle.agent_table.specs.Histories.{phase_by, readings}
 use Rattle.agent_table.specs.Readings.{Readings}
 use Rattle.agent_table.specs.Rows.{Row}
-use Rattle.replay_rounds.specs.Entering.{entry}
-use Rattle.replay_rounds.proofs.Rows.{in_time, fault_leads, fault_phase}
-use Rattle.replay_rounds.proofs.Seen.{Seen, phase_seen, row_seen, with_entry, with_bytes}
-use Rattle.replay_rounds.proofs.Sends.{nothing, is_gone, gone_stays, broke_silent}
-use Rattle.replay_rounds.proofs.Wires.{TiedBut, onto_nothing, onto_begun, more_on, one_more}
-
--- it took all that was sent
-abbrev pub Whole : List Entry → List ℕ → Type 0
-Whole entries bytes = bytes ≡ sent entries
-
--- While a connection is there, it took all that was sent.
-abbrev pub LastWired : Phase → List Entry → List ℕ → Type 0
-LastWired Down = Wired
-LastWired Opening = Whole
-LastWired Up = Whole
-LastWired Spilled = Whole
-LastWired Off = Wired
-
-abbrev pub AreWired : Seen → Type 0
-AreWired v = TiedBut Wired (LastWired (phase_seen v)) (connections v.past) v.taken
+use Rattle.agent_ties.specs.Seen.{entry, Seen, phase_seen, row_seen, with_entry, with_bytes}
+use Rattle.agent_ties.proofs.Rows.{in_time, fault_leads, fault_phase}
+use Rattle.agent_ties.proofs.Sends.{nothing, is_gone, gone_stays, broke_silent}
+use Rattle.agent_ties.specs.Wired.{TiedBut, Whole, LastWired, AreWired}
+use Rattle.agent_ties.proofs.Seen.{phase_is}
+use Rattle.agent_ties.proofs.Wires.{onto_nothing, onto_begun, more_on, one_more}
 
 pub is_wired : (phase : Phase) (es : List Entry) (bs : List ℕ) → LastWired phase es bs → Wired es bs
 is_wired Down es bs h = h
@@ -113,9 +100,6 @@ module _ (now : ℕ) (v : Seen) (cause : Cause) (found : Row) (e : row_seen v no
   abbrev r : Readings
   r = readings v.setup v.sizes v.past
 
-  phase_is : phase_seen (with_entry v now cause found) ≡ found.phase
-  phase_is = ap (λ q. phase_by q (phase_seen v)) e
-
   module _ (other : is_opened cause ≡ false) (h : AreWired v) where
     last_on : (gone : Bool) → is_gone (phase_seen v) ≡ gone → (es : List Entry) (bs : List ℕ) → LastWired (phase_seen v) es bs → LastWired found.phase (es ++ new ∷ []) (bs ++ sent_in found.effects)
     last_on true is es bs l =
@@ -131,7 +115,7 @@ module _ (now : ℕ) (v : Seen) (cause : Cause) (found : Row) (e : row_seen v no
     -- all of it was sent
     pub wired_on : AreWired (with_bytes (with_entry v now cause found) (sent_in found.effects))
     wired_on =
-        subst (λ phase. TiedBut Wired (LastWired phase) (connections (new ∷ v.past)) (onto_last v.taken (sent_in found.effects))) (sym phase_is)
+        subst (λ phase. TiedBut Wired (LastWired phase) (connections (new ∷ v.past)) (onto_last v.taken (sent_in found.effects))) (sym (phase_is now v cause found e))
         (subst (λ cs. TiedBut Wired (LastWired found.phase) cs (onto_last v.taken (sent_in found.effects))) (sym same_connections)
         (more_on Wired (LastWired (phase_seen v)) (LastWired found.phase) (new ∷ []) (sent_in found.effects) (last_on (is_gone (phase_seen v)) refl) (connections v.past) v.taken h))
 
@@ -183,3 +167,11 @@ module _ (now : ℕ) (v : Seen) (found : Row) (e : row_seen v now c.Opened ≡ S
   opened_part k =
       subst (λ ws. TiedBut Wired (Part first k) (connections (first ∷ v.past)) ws) (sym (onto_begun v.taken (take k (sent_in found.effects))))
       (one_more Wired (LastWired (phase_seen v)) (Part first k) (first ∷ []) (take k (sent_in found.effects)) (is_wired (phase_seen v)) ([], refl, refl) (connections v.past) v.taken h)
+
+-- ---- A break sends nothing
+
+pub noted_wired : (now : ℕ) (v : Seen) (reason : Why) (found : Row) → row_seen v now (c.Broke reason) ≡ Some found → AreWired v → AreWired (with_entry v now (c.Broke reason) found)
+noted_wired now v reason found e h =
+    let q = readings v.setup v.sizes v.past in
+    let none = nothing found.effects (broke_silent v.setup v.sizes q now reason found (in_time v.setup v.sizes q now (c.Broke reason) found e)) in
+    subst (λ ws. AreWired (record (with_entry v now (c.Broke reason) found) { taken = ws })) (ap (onto_last v.taken) none ∙ onto_nothing v.taken) (wired_on now v (c.Broke reason) found e refl h)

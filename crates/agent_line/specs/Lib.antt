@@ -1,0 +1,4 @@
+pub mod Recorded
+pub mod Told
+pub mod Entered
+pub mod Times

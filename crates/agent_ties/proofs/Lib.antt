@@ -1,0 +1,14 @@
+pub mod Rows
+pub mod Sends
+pub mod Dues
+pub mod Seen
+pub mod Wires
+pub mod Wired
+pub mod Heard
+pub mod Listening
+pub mod Handed
+pub mod Keeping
+pub mod Present
+pub mod Counting
+pub mod TakeRows
+pub mod Whole
