@@ -1,95 +1,117 @@
 -- A journal with an entry more, and perhaps a break behind it.
-use Rattle.std.proofs.Common.{◌≡◌, ◌⊎◌, ℕ, Bool, true, false, List, [], ◌∷◌, ◌++◌, refl, sym, ap, ◌∙◌, inl, inr}
-use Rattle.agent_journal.specs.declared.entry.Cause.{Cause}
-use Rattle.agent_journal.specs.declared.entry.Cause.TheVariants as c
-use Rattle.agent_journal.specs.declared.entry.Why.TheVariants as why
-use Rattle.std.specs.Prelude.{Option, Some, None}
+use Rattle.std.proofs.Common.{◌≡◌, ◌⊎◌, ℕ, Bool, true, false, cond, List, [], ◌∷◌, ◌++◌, refl, sym, ap, ◌∙◌, arith, append_assoc, inl, inr}
+use Rattle.std.specs.Prelude.{Contains, Option, Some, None, nat_le}
 use Rattle.std.specs.List.{list_any}
 use Rattle.std.proofs.lemmas.List.Folds.{list_any-append}
-use Rattle.std.proofs.Common.{append_assoc}
+use Rattle.mqtt_packet.specs.declared.packet.Packet.{Packet}
+use Rattle.agent_journal.specs.declared.entry.Cause.{Cause}
+use Rattle.agent_journal.specs.declared.entry.Cause.TheVariants as c
 use Rattle.agent_journal.specs.declared.entry.Entry.{Entry}
 use Rattle.agent_journal.specs.declared.entry.Why.{Why}
+use Rattle.agent_journal.specs.declared.entry.Why.TheVariants as why
+use Rattle.agent_journal.specs.Wires.{AreReadings}
 use Rattle.agent_table.specs.Rows.{Row}
-use Rattle.agent_line.specs.Recorded.{Recorded, row_in, entry, with_row, noted, noted_by, is_take, Grows, Takes}
+use Rattle.agent_ties.specs.Seen.{entry}
+use Rattle.agent_line.specs.Entered.{IsEntered, IsWhole, IsPart, Arrives, idled}
+use Rattle.agent_line.specs.Recorded.{Recorded, row_in, noted, noted_by, is_take, AreOthers, Grows, Enters}
 use Rattle.agent_line.specs.Told.{Told}
-use Rattle.agent_line.specs.Entered.{Enters, IsWhole, IsPart, Arrives}
-use Rattle.mqtt_packet.specs.declared.packet.Packet.{Packet}
 
-module _ (old new : Recorded) (at : ℕ) (cause : Cause) (before now : Told) (h : Enters old at cause before new now) where
-  pub takes_one : Takes old cause new
-  takes_one = by h.sent
+-- this time
+now_read : (at : ℕ) → Contains (at ∷ []) at
+now_read at = (0, omega arith, refl)
+
+both_read : (readings : List ℕ) (xs ys : List Entry) → AreReadings readings xs → AreReadings readings ys → AreReadings readings (xs ++ ys)
+both_read readings [] ys h k = k
+both_read readings (e ∷ xs) ys h k = (h.0, both_read readings xs ys h.1 k)
+
+pub none_others : (at : ℕ) → AreOthers at []
+none_others at = record { none_taken = refl; times = tt }
+
+one_other : (at : ℕ) (cause : Cause) (found : Row) → is_take cause ≡ false → AreOthers at (entry at cause found ∷ [])
+one_other at cause found other = record { none_taken = rw other refl; times = (now_read at, tt) }
+
+more_others : (at : ℕ) (xs ys : List Entry) → AreOthers at xs → AreOthers at ys → AreOthers at (xs ++ ys)
+more_others at xs ys a b =
+    record {
+      none_taken = list_any-append (λ (e : Entry). is_take e.cause) xs ys ∙ rw (a.none_taken, b.none_taken) refl;
+      times = both_read (at ∷ []) xs ys a.times b.times;
+    }
+
+module _ (old new : Recorded) (at : ℕ) (cause : Cause) (before now : Told) (h : IsEntered old at cause before new now) where
+  pub enters_one : Enters at cause old new
+  enters_one = by h.sent
     where
-      by : IsWhole old at cause h.found before new now ⊎ IsPart old at cause h.found before new now → Takes old cause new
+      by : IsWhole old at cause h.found before new now ⊎ IsPart old at cause h.found before new now → Enters at cause old new
       by (inl whole) =
           record {
-            setup = ap (λ (b : Recorded). b.setup) whole.0;
-            sizes = ap (λ (b : Recorded). b.sizes) whole.0;
+            setup = ap (λ (r : Recorded). r.setup) whole.newest;
+            sizes = ap (λ (r : Recorded). r.sizes) whole.newest;
             more = [];
-            taken = entry at cause h.found;
-            past = ap (λ (b : Recorded). b.past) whole.0;
+            first = entry at cause h.found;
+            past = ap (λ (r : Recorded). r.past) whole.newest;
             is = refl;
-            none_taken = refl;
+            time = refl;
+            others = none_others at;
           }
-      by (inr (k, second, short, there, is, took, rose)) =
+      by (inr part) =
           record {
-            setup = ap (λ (b : Recorded). b.setup) is;
-            sizes = ap (λ (b : Recorded). b.sizes) is;
-            more = entry at (c.Broke why.Fault) second ∷ [];
-            taken = entry at cause h.found;
-            past = ap (λ (b : Recorded). b.past) is;
+            setup = ap (λ (r : Recorded). r.setup) part.newest;
+            sizes = ap (λ (r : Recorded). r.sizes) part.newest;
+            more = entry at (c.Broke why.Fault) part.second ∷ [];
+            first = entry at cause h.found;
+            past = ap (λ (r : Recorded). r.past) part.newest;
             is = refl;
-            none_taken = refl;
+            time = refl;
+            others = one_other at (c.Broke why.Fault) part.second refl;
           }
 
-  pub grows_one : is_take cause ≡ false → Grows old new
-  grows_one other = by h.sent
-    where
-      by : IsWhole old at cause h.found before new now ⊎ IsPart old at cause h.found before new now → Grows old new
-      by (inl whole) =
-          record {
-            setup = ap (λ (b : Recorded). b.setup) whole.0;
-            sizes = ap (λ (b : Recorded). b.sizes) whole.0;
-            more = entry at cause h.found ∷ [];
-            past = ap (λ (b : Recorded). b.past) whole.0;
-            none_taken = rw other refl;
-          }
-      by (inr (k, second, short, there, is, took, rose)) =
-          record {
-            setup = ap (λ (b : Recorded). b.setup) is;
-            sizes = ap (λ (b : Recorded). b.sizes) is;
-            more = entry at (c.Broke why.Fault) second ∷ entry at cause h.found ∷ [];
-            past = ap (λ (b : Recorded). b.past) is;
-            none_taken = rw other refl;
-          }
+-- an entry that takes no request
+pub grows_entered : (at : ℕ) (cause : Cause) (old new : Recorded) → is_take cause ≡ false → Enters at cause old new → Grows at old new
+grows_entered at cause old new other h =
+    record {
+      setup = h.setup;
+      sizes = h.sizes;
+      more = h.more ++ h.first ∷ [];
+      past = h.past ∙ sym (append_assoc h.more (h.first ∷ []) old.past);
+      others =
+          more_others at h.more (h.first ∷ []) h.others (record { none_taken = rw (ap is_take h.is ∙ other) refl; times = ((0, omega arith, sym h.time), tt) });
+    }
 
-pub grows_none : (old new : Recorded) → new ≡ old → Grows old new
-grows_none old new is =
-    record { setup = ap (λ (b : Recorded). b.setup) is; sizes = ap (λ (b : Recorded). b.sizes) is; more = []; past = ap (λ (b : Recorded). b.past) is; none_taken = refl }
+pub grows_none : (at : ℕ) (old new : Recorded) → new ≡ old → Grows at old new
+grows_none at old new is =
+    record { setup = ap (λ (r : Recorded). r.setup) is; sizes = ap (λ (r : Recorded). r.sizes) is; more = []; past = ap (λ (r : Recorded). r.past) is; others = none_others at }
 
-pub grows_noted : (old new : Recorded) (at : ℕ) (reason : Why) → new ≡ noted old at (c.Broke reason) → Grows old new
+pub grows_noted : (old new : Recorded) (at : ℕ) (reason : Why) → new ≡ noted old at (c.Broke reason) → Grows at old new
 grows_noted old new at reason is = by (row_in old at (c.Broke reason)) is
   where
-    by : (r : Option Row) → new ≡ noted_by old at (c.Broke reason) r → Grows old new
-    by None e = grows_none old new e
+    by : (r : Option Row) → new ≡ noted_by old at (c.Broke reason) r → Grows at old new
+    by None e = grows_none at old new e
     by (Some found) e =
         record {
-          setup = ap (λ (b : Recorded). b.setup) e;
-          sizes = ap (λ (b : Recorded). b.sizes) e;
+          setup = ap (λ (r : Recorded). r.setup) e;
+          sizes = ap (λ (r : Recorded). r.sizes) e;
           more = entry at (c.Broke reason) found ∷ [];
-          past = ap (λ (b : Recorded). b.past) e;
-          none_taken = refl;
+          past = ap (λ (r : Recorded). r.past) e;
+          others = one_other at (c.Broke reason) found refl;
         }
 
-pub grows_on : (old mid new : Recorded) → Grows old mid → Grows mid new → Grows old new
-grows_on old mid new a b =
+pub grows_idled : (old new : Recorded) (idle at : ℕ) → new ≡ idled old idle at → Grows at old new
+grows_idled old new idle at is = by (nat_le 10000 idle) is
+  where
+    by : (b : Bool) → new ≡ cond b (noted old at (c.Broke why.Idle)) old → Grows at old new
+    by true e = grows_noted old new at why.Idle e
+    by false e = grows_none at old new e
+
+pub grows_on : (at : ℕ) (old mid new : Recorded) → Grows at old mid → Grows at mid new → Grows at old new
+grows_on at old mid new a b =
     record {
       setup = b.setup ∙ a.setup;
       sizes = b.sizes ∙ a.sizes;
       more = b.more ++ a.more;
       past = b.past ∙ ap (λ xs. b.more ++ xs) a.past ∙ sym (append_assoc b.more a.more old.past);
-      none_taken = list_any-append (λ (e : Entry). is_take e.cause) b.more a.more ∙ rw (b.none_taken, a.none_taken) refl;
+      others = more_others at b.more a.more b.others a.others;
     }
 
-pub grows_arrived : (old new : Recorded) (at : ℕ) (packet : Packet) (before now : Told) → Arrives old at packet before new now → Grows old new
-grows_arrived old new at packet before now (inl (none, same)) = grows_none old new same.0
-grows_arrived old new at packet before now (inr h) = grows_one old new at (c.Arrived packet) before now h refl
+pub grows_arrived : (old new : Recorded) (at : ℕ) (packet : Packet) (before now : Told) → Arrives old at packet before new now → Grows at old new
+grows_arrived old new at packet before now (inl none) = grows_none at old new none.1
+grows_arrived old new at packet before now (inr h) = grows_entered at (c.Arrived packet) old new refl (enters_one old new at (c.Arrived packet) before now h)

@@ -1,37 +1,23 @@
 -- What a link tells, and how it follows what it told at first.
-use Rattle.std.specs.Prelude.{◌≡◌, ℕ, ◌+◌, ◌*◌, ◌≤◌, List, ◌++◌, Option, Some, None}
+use Rattle.std.specs.Prelude.{◌≡◌, ℕ, List, ◌++◌, Option, Some, None}
 use Rattle.std.specs.Option.{option_map}
 use Rattle.mqtt_packet.specs.Splitting.{Kept as Stream}
-use Rattle.agent_link.specs.Counts.{RoseBy}
+use Rattle.agent_link.specs.Counts.{LinkCounts}
 use Rattle.agent_link.specs.Wires.{onto_last}
-use Rattle.agent_table.specs.Ties.{is_fault, is_end, is_idle, breaks_for}
+use Rattle.agent_ties.specs.Counting.{HasCounted, IsLater}
 use Rattle.agent_ties.specs.Seen.{Seen}
-use Rattle.agent_ties.specs.Ties.{Ties, waited}
-use Rattle.agent_line.specs.Recorded.{Recorded, phase_in}
+use Rattle.agent_ties.specs.Ties.{Ties}
+use Rattle.agent_line.specs.Recorded.{Recorded}
 
 -- the bytes that each connection took and gave, where the link tells them, and its counts
 pub record Told : Type 0 where
   pub taken : Option (List (List ℕ))
   pub given : Option (List (List ℕ))
-  pub faults : ℕ
-  pub ends : ℕ
-  pub nothings : ℕ
+  pub counts : LinkCounts
 
 -- bytes more on the present connection
 abbrev pub more_on : Option (List (List ℕ)) → List ℕ → Option (List (List ℕ))
 more_on wires bytes = option_map (λ ws. onto_last ws bytes) wires
-
--- No count fell.
-pub record IsLater (before now : Told) : Type 0 where
-  pub faults : before.faults ≤ now.faults
-  pub ends : before.ends ≤ now.ends
-  pub nothings : before.nothings ≤ now.nothings
-
--- No byte was moved, and no count fell.
-pub record IsStill (before now : Told) : Type 0 where
-  pub taken : now.taken ≡ before.taken
-  pub given : now.given ≡ before.given
-  pub later : IsLater before now
 
 -- Since then there are these connections, where the link tells its bytes.
 abbrev pub Follows : Option (List (List ℕ)) → List (List ℕ) → Option (List (List ℕ)) → Type 0
@@ -49,9 +35,7 @@ pub record Since (P : Seen → Type 0) (first : Told) (r : Recorded) (stream : S
   pub took : Follows first.taken taken now.taken
   pub gave : Follows first.given given now.given
   pub ties : P (seen_in r stream taken given)
-  pub faults : RoseBy (breaks_for is_fault r.past) first.faults now.faults
-  pub ends : RoseBy (breaks_for is_end r.past) first.ends now.ends
-  pub nothings : RoseBy (10000 * breaks_for is_idle r.past + waited (phase_in r) idle) first.nothings now.nothings
+  pub counts : HasCounted r.setup r.sizes r.past idle first.counts now.counts
 
 -- What was tied to the link since any moment still is.
 abbrev pub KeepsTies : Recorded → Stream → ℕ → Told → Recorded → Stream → ℕ → Told → Type 0

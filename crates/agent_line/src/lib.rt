@@ -4,12 +4,10 @@
 
 mod line;
 mod recorder;
-mod reading;
 mod telling;
 mod wire;
 
 pub use line::{Came, Line};
-pub use reading::read;
 pub use recorder::Recorder;
 pub use telling::Telling;
 pub use wire::spell;

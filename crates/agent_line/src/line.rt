@@ -4,7 +4,6 @@ ghost use Rattle.std.specs.Prelude.{◌≡◌, ℕ, ◌≤◌, true, false, is_s
 ghost use Rattle.agent_journal.specs.declared.entry.Cause.TheVariants as causes;
 ghost use Rattle.agent_ties.specs.Seen.{fresh};
 ghost use Rattle.agent_line.specs.Recorded.{noted};
-ghost use Rattle.agent_line.specs.Told.{IsStill};
 
 mod enter;
 mod open;
@@ -59,7 +58,7 @@ fn settle<L: Link, const ACKS: usize, const IN: usize, const ROUTES: usize>(
     recorder: &Recorder<ACKS, IN, ROUTES>,
     link: &mut L,
 )
-    ensures still { IsStill (⟦<L as Telling>⟧.told link.old) (⟦<L as Telling>⟧.told link.new) }
+    ensures same { ⟦<L as Telling>⟧.told link.new ≡ ⟦<L as Telling>⟧.told link.old }
 {
     match recorder.phase() {
         Phase::Down | Phase::Off => link.shut(),
@@ -75,7 +74,7 @@ fn break_off<L: Link, const ACKS: usize, const IN: usize, const ROUTES: usize>(
     why: Why,
 ) -> Result<(), NoMemory>
     ensures noted { OnOk result (recorder.new ≡ noted recorder.old now (causes.Broke why)) }
-    ensures still { OnOk result (IsStill (⟦<L as Telling>⟧.told link.old) (⟦<L as Telling>⟧.told link.new)) }
+    ensures same { OnOk result (⟦<L as Telling>⟧.told link.new ≡ ⟦<L as Telling>⟧.told link.old) }
 {
     let cause = Cause::Broke { why };
     if !recorder.may(now, &cause) {

@@ -1,9 +1,10 @@
 //! An agent that keeps its journal.
 
-ghost use Rattle.std.specs.Prelude.{◌≡◌, ◌<◌, ◌≤◌, [], ◌∷◌, true, reverse, length, is_some, IfOk, IfErr, OnOk, OnErr};
+ghost use Rattle.std.specs.Prelude.{◌≡◌, ◌<◌, ◌≤◌, None, [], ◌∷◌, true, reverse, length, is_some, IfOk, IfErr, OnOk, OnErr};
 ghost use Rattle.std.specs.List.{AllByRecursion};
 ghost use Rattle.agent_journal.specs.Sound.{IsSoundEffect};
-ghost use Rattle.agent_journal.specs.Readings.{pending_of, last_time_of};
+ghost use Rattle.agent_journal.specs.Readings.{pending_of, last_time_of, breaks_of};
+ghost use Rattle.agent_journal.specs.declared.setup.Phase.TheVariants.{Down};
 ghost use Rattle.agent_journal.specs.Setups.{is_client};
 ghost use Rattle.agent_table.specs.Histories.{IsLegalPast};
 ghost use Rattle.agent_line.specs.Recorded.{phase_in, row_in, due_in, Makes, newest_effects};
@@ -97,6 +98,13 @@ impl<const ACKS: usize, const IN: usize, const ROUTES: usize> Recorder<ACKS, IN,
         ensures { result ≡ due_in self.now at }
     {
         self.core.due(at)
+    }
+
+    /// Does nothing. Its clause says that where nothing is due in Down, another opening may fail.
+    pub(crate) fn stays(&self, now: u64)
+        ensures few { last_time_of self.now.past ≤ now → due_in self.now now ≡ None → phase_in self.now ≡ Down → breaks_of self.now.past ≤ self.now.setup.reopen }
+    {
+        self.core.phase();
     }
 
     /// Makes the entry of a cause that has a row. Where memory runs out, nothing has changed.

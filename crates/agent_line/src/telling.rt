@@ -10,5 +10,5 @@ pub trait Telling: Link {
 }
 
 impl<L: Link> Telling for L {
-    ghost told = { λ l. record { taken = L.taken l; given = L.given l; faults = L.faults l; ends = L.ends l; nothings = L.nothings l } };
+    ghost told = { λ l. record { taken = L.taken l; given = L.given l; counts = record { faults = L.faults l; ends = L.ends l; nothings = L.nothings l } } };
 }

@@ -3,10 +3,10 @@
 ghost use Rattle.std.specs.Prelude.{◌≡◌, ◌∷◌, ◌+◌, ◌-◌, ◌<◌, ◌≤◌, ◌++◌, ℕ, [], List, true, false, length, take, IfOk, OnOk};
 ghost use Rattle.std.specs.List.{AllByRecursion};
 ghost use Rattle.mqtt_packet.specs.Spelling as spelling;
-ghost use Rattle.agent_link.specs.Counts.{Rose};
 ghost use Rattle.agent_journal.specs.Sound.{IsSoundEffect};
 ghost use Rattle.agent_journal.specs.Wires.{sent_in};
-ghost use Rattle.agent_line.specs.Told.{more_on, IsLater};
+ghost use Rattle.agent_line.specs.Entered.{counts_behind};
+ghost use Rattle.agent_line.specs.Told.{more_on};
 
 use crate::telling::Telling;
 use agent_journal::Effect;
@@ -53,15 +53,14 @@ fn spell_packet(buffer: &mut Vec<u8>, packet: &Packet) -> Result<(), NoMemory>
     Ok(())
 }
 
-/// Sends as many of these bytes as the connection takes, and answers how many that is.
+/// Sends as many of these bytes as the connection takes, and answers how many that is. Where that isn't all, the last call
+/// failed.
 #[tactic(auto, using(crate::proofs::Sending::took_nothing, crate::proofs::Sending::took_more))]
 pub(crate) fn send_all<L: Link>(link: &mut L, bytes: &[u8]) -> Result<usize, NoMemory>
     ensures within { IfOk result (λ n. n ≤ length bytes.now) }
     ensures taken { IfOk result (λ n. L.taken link.new ≡ more_on (L.taken link.old) (take n bytes.now)) }
     ensures given { OnOk result (L.given link.new ≡ L.given link.old) }
-    // Where that isn't all, the link has counted a fault.
-    ensures short { IfOk result (λ n. n < length bytes.now → Rose (L.faults link.old) (L.faults link.new)) }
-    ensures later { OnOk result (IsLater (⟦<L as Telling>⟧.told link.old) (⟦<L as Telling>⟧.told link.new)) }
+    ensures counts { IfOk result (λ n. (⟦<L as Telling>⟧.told link.new).counts ≡ counts_behind n (length bytes.now) (⟦<L as Telling>⟧.told link.old).counts) }
 {
     let mut sent = 0;
     'pieces: while sent < bytes.len() {

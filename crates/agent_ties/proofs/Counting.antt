@@ -26,11 +26,36 @@ use Rattle.agent_ties.proofs.Sends.{away_stays}
 
 -- ---- Counts
 
-rose_on : (n m first before now : ℕ) → n ≤ m → before ≤ now → RoseBy m first before → RoseBy n first now
+rose_on : (n m first before now : ℕ) → n ≤ m → RoseBy 0 before now → RoseBy m first before → RoseBy n first now
 rose_on n m first before now fewer later h = omega (arith, clamps, fewer, later, h)
 
 rose_more : (n first before now : ℕ) → Rose before now → RoseBy n first before → RoseBy (n + 1) first now
 rose_more n first before now rose h = omega (arith, clamps, rose, h)
+
+-- a count is no less than itself, and one more is no less
+pub no_less : (count : ℕ) → RoseBy 0 count count
+no_less count = omega (arith, clamps)
+
+pub raised_later : (count : ℕ) → RoseBy 0 count (raised count)
+raised_later count = omega (arith, clamps)
+
+rose_two : (before mid now : ℕ) → RoseBy 0 before mid → RoseBy 0 mid now → RoseBy 0 before now
+rose_two before mid now a b = omega (arith, clamps, a, b)
+
+pub same_later : (counts : LinkCounts) → IsLater counts counts
+same_later counts = record { faults = no_less counts.faults; ends = no_less counts.ends; nothings = no_less counts.nothings }
+
+pub later_two : (before mid now : LinkCounts) → IsLater before mid → IsLater mid now → IsLater before now
+later_two before mid now a b =
+    record {
+      faults = rose_two before.faults mid.faults now.faults a.faults b.faults;
+      ends = rose_two before.ends mid.ends now.ends a.ends b.ends;
+      nothings = rose_two before.nothings mid.nothings now.nothings a.nothings b.nothings;
+    }
+
+-- a rise, and no fall behind it
+pub rose_then : (before mid now : ℕ) → Rose before mid → RoseBy 0 mid now → Rose before now
+rose_then before mid now a b = omega (arith, clamps, a, b)
 
 rose_raised : (n first count : ℕ) → RoseBy n first count → RoseBy n first (raised count)
 rose_raised n first count h = omega (arith, clamps, h)
@@ -105,7 +130,7 @@ module _ (s : Setup) (l : Sizes) (past : List Entry) (first : LinkCounts) where
   ended_counted idle now h = record { faults = h.faults; ends = rose_raised (breaks_for is_end past) first.ends now.ends h.ends; nothings = h.nothings }
 
   -- a receive heard nothing
-  pub nothing_counted : (idle : ℕ) (before now : LinkCounts) → before.faults ≤ now.faults → before.ends ≤ now.ends → Rose before.nothings now.nothings → HasCounted s l past idle first before
+  pub nothing_counted : (idle : ℕ) (before now : LinkCounts) → RoseBy 0 before.faults now.faults → RoseBy 0 before.ends now.ends → Rose before.nothings now.nothings → HasCounted s l past idle first before
       → HasCounted s l past (at_most 10000 (idle + 1)) first now
   nothing_counted idle before now faults ends rose h =
       let one = one_waited (listens (phase_of s l past)) idle in
@@ -113,7 +138,7 @@ module _ (s : Setup) (l : Sizes) (past : List Entry) (first : LinkCounts) where
         faults = rose_on (breaks_for is_fault past) (breaks_for is_fault past) first.faults before.faults now.faults (omega arith) faults h.faults;
         ends = rose_on (breaks_for is_end past) (breaks_for is_end past) first.ends before.ends now.ends (omega arith) ends h.ends;
         nothings =
-            rose_on (nothings_by (at_most 10000 (idle + 1))) (nothings_by idle + 1) first.nothings now.nothings now.nothings (omega (arith, one)) (omega arith)
+            rose_on (nothings_by (at_most 10000 (idle + 1))) (nothings_by idle + 1) first.nothings now.nothings now.nothings (omega (arith, one)) (no_less now.nothings)
             (rose_more (nothings_by idle) first.nothings before.nothings now.nothings rose h.nothings);
       }
 
@@ -123,7 +148,7 @@ module _ (s : Setup) (l : Sizes) (past : List Entry) (first : LinkCounts) where
       record {
         faults = h.faults;
         ends = h.ends;
-        nothings = rose_on (10000 * breaks_for is_idle past) (nothings_by idle) first.nothings now.nothings now.nothings (omega arith) (omega arith) h.nothings;
+        nothings = rose_on (10000 * breaks_for is_idle past) (nothings_by idle) first.nothings now.nothings now.nothings (omega arith) (no_less now.nothings) h.nothings;
       }
 
   -- ---- Entries
@@ -148,7 +173,7 @@ module _ (s : Setup) (l : Sizes) (past : List Entry) (first : LinkCounts) where
     same_count test before now none h = subst (λ n. RoseBy n before now) (sym (same_breaks test (entry at cause found) past none)) h
 
     -- where the agent has waited no longer behind it
-    same_nothings : (idle : ℕ) (before now : ℕ) → before ≤ now → is_break_for is_idle cause ≡ false → waited (phase_of s l more) idle ≤ waited (phase_of s l past) idle → RoseBy (nothings_by idle) first.nothings before
+    same_nothings : (idle : ℕ) (before now : ℕ) → RoseBy 0 before now → is_break_for is_idle cause ≡ false → waited (phase_of s l more) idle ≤ waited (phase_of s l past) idle → RoseBy (nothings_by idle) first.nothings before
         → RoseBy (10000 * breaks_for is_idle more + waited (phase_of s l more) idle) first.nothings now
     same_nothings idle before now later none fewer h =
         let same = same_breaks is_idle (entry at cause found) past none in
@@ -159,11 +184,11 @@ module _ (s : Setup) (l : Sizes) (past : List Entry) (first : LinkCounts) where
         record {
           faults = same_count is_fault first.faults now.faults other.fault h.faults;
           ends = same_count is_end first.ends now.ends other.end h.ends;
-          nothings = same_nothings idle now.nothings now.nothings (omega arith) other.idle (waits_on other.opened idle) h.nothings;
+          nothings = same_nothings idle now.nothings now.nothings (no_less now.nothings) other.idle (waits_on other.opened idle) h.nothings;
         }
 
   -- a call failed
-  pub fault_counted : (at : ℕ) (found : Row) → row s l past at (c.Broke why.Fault) ≡ Some found → (idle : ℕ) (before now : LinkCounts) → Rose before.faults now.faults → before.ends ≤ now.ends → before.nothings ≤ now.nothings
+  pub fault_counted : (at : ℕ) (found : Row) → row s l past at (c.Broke why.Fault) ≡ Some found → (idle : ℕ) (before now : LinkCounts) → Rose before.faults now.faults → RoseBy 0 before.ends now.ends → RoseBy 0 before.nothings now.nothings
       → HasCounted s l past idle first before → HasCounted s l (entry at (c.Broke why.Fault) found ∷ past) idle first now
   fault_counted at found e idle before now rose ends nothings h =
       record {
@@ -173,7 +198,7 @@ module _ (s : Setup) (l : Sizes) (past : List Entry) (first : LinkCounts) where
       }
 
   -- the connection has ended
-  pub end_counted : (at : ℕ) (found : Row) → row s l past at (c.Broke why.End) ≡ Some found → (idle : ℕ) (before now : LinkCounts) → before.faults ≤ now.faults → Rose before.ends now.ends → before.nothings ≤ now.nothings → HasCounted s l past idle first before
+  pub end_counted : (at : ℕ) (found : Row) → row s l past at (c.Broke why.End) ≡ Some found → (idle : ℕ) (before now : LinkCounts) → RoseBy 0 before.faults now.faults → Rose before.ends now.ends → RoseBy 0 before.nothings now.nothings → HasCounted s l past idle first before
       → HasCounted s l (entry at (c.Broke why.End) found ∷ past) idle first now
   end_counted at found e idle before now faults rose nothings h =
       record {
@@ -194,7 +219,7 @@ module _ (s : Setup) (l : Sizes) (past : List Entry) (first : LinkCounts) where
         ends = h.ends;
         nothings =
             rose_on (10000 * (breaks_for is_idle past + 1) + waited (phase_of s l (entry at (c.Broke why.Idle) found ∷ past)) idle) (nothings_by idle) first.nothings now.nothings now.nothings
-            (omega (arith, before, behind, long)) (omega arith) h.nothings;
+            (omega (arith, before, behind, long)) (no_less now.nothings) h.nothings;
       }
 
   -- a connection begins, on which nothing was waited for
@@ -205,5 +230,5 @@ module _ (s : Setup) (l : Sizes) (past : List Entry) (first : LinkCounts) where
         faults = h.faults;
         ends = h.ends;
         nothings =
-            rose_on (10000 * breaks_for is_idle past + waited (phase_of s l (entry at c.Opened found ∷ past)) 0) (nothings_by idle) first.nothings now.nothings now.nothings (omega (arith, none)) (omega arith) h.nothings;
+            rose_on (10000 * breaks_for is_idle past + waited (phase_of s l (entry at c.Opened found ∷ past)) 0) (nothings_by idle) first.nothings now.nothings now.nothings (omega (arith, none)) (no_less now.nothings) h.nothings;
       }

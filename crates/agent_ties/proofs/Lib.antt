@@ -7,6 +7,7 @@ pub mod Wired
 pub mod Heard
 pub mod Listening
 pub mod Handed
+pub mod Rejecting
 pub mod Keeping
 pub mod Present
 pub mod Counting

@@ -8,12 +8,13 @@ use Rattle.mqtt_packet.specs.Splitting.{Kept as Stream}
 use Rattle.mqtt_packet.specs.Steps.{next_of}
 use Rattle.mqtt_packet.proofs.Uniqueness.{spelled_are_sound}
 use Rattle.agent_link.specs.Wires.{onto_last}
+use Rattle.agent_journal.specs.declared.entry.Cause.{Cause}
 use Rattle.agent_journal.specs.declared.entry.Cause.TheVariants as c
 use Rattle.agent_journal.specs.declared.entry.Entry.{Entry}
 use Rattle.agent_journal.specs.declared.setup.Phase.TheVariants.{Down}
 use Rattle.agent_journal.specs.declared.setup.Setup.{Setup}
 use Rattle.agent_journal.specs.Readings.{last_time_of, breaks_of}
-use Rattle.agent_journal.specs.Wires.{is_opened}
+use Rattle.agent_journal.specs.Wires.{connections, is_opened, sent_in, Wired}
 use Rattle.agent_table.specs.Breaks.{opened_row}
 use Rattle.agent_table.specs.Histories.{phase_by, phase_of, readings, row}
 use Rattle.agent_table.specs.Readings.{at_most}
@@ -22,12 +23,13 @@ use Rattle.agent_table.specs.Sizes.{Sizes}
 use Rattle.agent_table.specs.Ties.{Moment, moment, stages, listens}
 use Rattle.agent_ties.specs.Seen.{Seen, phase_seen, row_seen}
 use Rattle.agent_ties.specs.Heard.{AreHanding, IsGoing, LastHeard}
+use Rattle.agent_ties.specs.Wired.{AreWired, LastWired, TiedBut}
 use Rattle.agent_ties.proofs.Handed.{next_spells}
 use Rattle.agent_ties.proofs.Heard.{listened}
 use Rattle.agent_ties.proofs.Listening.{arrived_some}
 use Rattle.agent_ties.proofs.Rows.{timely, in_time, small_reading, gave_up_there}
 use Rattle.agent_ties.proofs.Seen.{found_by}
-use Rattle.agent_ties.proofs.Sends.{is_gone, gone_stays, gone_away}
+use Rattle.agent_ties.proofs.Sends.{is_gone, gone_stays, gone_away, nothing}
 use Rattle.agent_ties.proofs.Wires.{last_there}
 
 onto_none : {X : Type 0} (xs : List (List X)) (more : List X) → onto_last xs more ≡ [] → xs ≡ []
@@ -53,6 +55,28 @@ module _ (s : Setup) (l : Sizes) (entry : Entry) (past : List Entry) where
 pub none_gone : (s : Setup) (l : Sizes) (past : List Entry) → stages s l past ≡ [] → is_gone (phase_of s l past) ≡ true
 none_gone s l [] e = refl
 none_gone s l (entry ∷ past) e = none_by s l entry past (is_opened entry.cause) refl (none_gone s l past) e
+
+-- Without a connection that took something, neither was there one that gave something.
+pub none_connected : (s : Setup) (l : Sizes) (past : List Entry) → connections past ≡ [] → stages s l past ≡ []
+none_connected s l [] e = refl
+none_connected s l (entry ∷ past) e = by (is_opened entry.cause) (none_connected s l past) e
+  where
+    by : (b : Bool) → (connections past ≡ [] → stages s l past ≡ []) → cond b (connections past ++ (entry ∷ []) ∷ []) (onto_last (connections past) (entry ∷ [])) ≡ []
+        → cond b (stages s l past ++ (moment s l entry past ∷ []) ∷ []) (onto_last (stages s l past) (moment s l entry past ∷ [])) ≡ []
+    by true rest none = absurd (some_behind (connections past) (entry ∷ []) none)
+    by false rest none = ap (λ xs. onto_last xs (moment s l entry past ∷ [])) (rest (onto_none (connections past) (entry ∷ []) none))
+
+-- Where no connection took something, an entry but Opened sends nothing.
+pub silent_without : (now : ℕ) (v : Seen) (cause : Cause) (found : Row) → row_seen v now cause ≡ Some found → is_opened cause ≡ false → AreWired v → v.taken ≡ [] → sent_in found.effects ≡ []
+silent_without now v cause found e other wired none =
+    let r = readings v.setup v.sizes v.past in
+    let gone = none_gone v.setup v.sizes v.past (none_connected v.setup v.sizes v.past (none_tied (connections v.past) v.taken wired none)) in
+    nothing found.effects (gone_stays v.setup v.sizes r now cause found (in_time v.setup v.sizes r now cause found e) other gone).0
+  where
+    none_tied : (xs : List (List Entry)) (ws : List (List ℕ)) → TiedBut Wired (LastWired (phase_seen v)) xs ws → ws ≡ [] → xs ≡ []
+    none_tied [] ws h e = refl
+    none_tied (x ∷ xs) [] h e = absurd h
+    none_tied (x ∷ xs) (w ∷ ws) h e = absurd (cc e)
 
 pub going_there : (v : Seen) → listens (phase_seen v) ≡ true → AreHanding v → (ms : List Moment) × (bs : List ℕ) × IsGoing v.stream ms bs
 going_there v on h =

@@ -1,5 +1,5 @@
 -- What a link's counts have to do with a journal, at each moment of an agent.
-use Rattle.std.specs.Prelude.{◌≡◌, ℕ, ◌+◌, ◌*◌, ◌≤◌, false, List, if◌then◌else◌}
+use Rattle.std.specs.Prelude.{◌≡◌, ℕ, ◌+◌, ◌*◌, false, List, if◌then◌else◌}
 use Rattle.agent_link.specs.Counts.{LinkCounts, RoseBy}
 use Rattle.agent_journal.specs.declared.entry.Cause.{Cause}
 use Rattle.agent_journal.specs.declared.entry.Entry.{Entry}
@@ -10,11 +10,11 @@ use Rattle.agent_table.specs.Histories.{phase_of}
 use Rattle.agent_table.specs.Sizes.{Sizes}
 use Rattle.agent_table.specs.Ties.{listens, is_fault, is_end, is_idle, is_break_for, breaks_for}
 
--- No count fell.
+-- No count fell, or it stands at the greatest u64.
 pub record IsLater (before now : LinkCounts) : Type 0 where
-  pub faults : before.faults ≤ now.faults
-  pub ends : before.ends ≤ now.ends
-  pub nothings : before.nothings ≤ now.nothings
+  pub faults : RoseBy 0 before.faults now.faults
+  pub ends : RoseBy 0 before.ends now.ends
+  pub nothings : RoseBy 0 before.nothings now.nothings
 
 -- how many receives heard nothing on the present connection, in a row, while the agent listens
 abbrev pub waited : Phase → ℕ → ℕ

@@ -25,6 +25,7 @@ use Rattle.agent_core.specs.Kept.{Kept, row_now}
 use Rattle.agent_core.specs.Stands.{StandsFor}
 use Rattle.agent_core.proofs.Standing.{rows_are_same}
 use Rattle.agent_table.specs.Rows.{Row}
+use Rattle.agent_line.proofs.Making.{reversed, row_of_step}
 use Rattle.replay_rounds.specs.World.{World, row_in, settled}
 use Rattle.agent_ties.specs.Seen.{entry}
 use Rattle.replay_rounds.specs.Entering.{noted, noted_by, failed, onto_wire, sends, sends_some, entered, entered_by}
@@ -58,18 +59,6 @@ pub noted_made : (old mid new : World) (at : ℕ) (cause : Cause) (bytes : List 
 noted_made old mid new at cause bytes made e = e ∙ ap settled made.newest ∙ sym (ap (noted_by old at cause) made.found)
 
 -- ---- An entry more
-
-pub reversed : (journal new : List Entry) (e : Entry) → new ≡ journal ++ e ∷ [] → reverse new ≡ e ∷ reverse journal
-reversed journal new e is = ap reverse is ∙ reverse-append journal (e ∷ [])
-
--- the entry of a step is the table's
-pub row_of_step : (core : Kept) (past : List Entry) (at : ℕ) (cause : Cause) (effects : List Effect) → StandsFor core past → effects_of (row_now core at cause) ≡ Some effects
-    → (found : Row) × (row core.setup core.sizes past at cause ≡ Some found) × (found.effects ≡ effects)
-row_of_step core past at cause effects stands e = by (row core.setup core.sizes past at cause) refl (ap effects_of (sym (rows_are_same core past at cause stands)) ∙ e)
-  where
-    by : (r : Option Row) → row core.setup core.sizes past at cause ≡ r → effects_of r ≡ Some effects → (found : Row) × (row core.setup core.sizes past at cause ≡ Some found) × (found.effects ≡ effects)
-    by None is h = absurd (cc h)
-    by (Some found) is h = (found, is, cc h)
 
 -- the packets that it sends have a spelling
 pub effects_sound : (core : Kept) (past : List Entry) (at : ℕ) (cause : Cause) (effects : List Effect) → is_client core.setup.client ≡ true → StandsFor core past

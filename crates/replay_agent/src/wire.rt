@@ -1,58 +1,14 @@
-//! An entry's packets go onto the wire.
+//! Bytes go onto the wire.
 
 ghost use Rattle.std.specs.Prelude.{◌≡◌, ◌∷◌, ◌+◌, ◌-◌, ◌<◌, ◌≤◌, ◌++◌, ℕ, [], List, true, false, length, take, nat_lt, IfOk, OnOk};
-ghost use Rattle.std.specs.List.{AllByRecursion};
-ghost use Rattle.mqtt_packet.specs.Spelling as spelling;
 ghost use Rattle.agent_link.specs.Counts.{with_fault};
 ghost use Rattle.agent_link.specs.Wires.{onto_last};
 ghost use Rattle.broker_tape.specs.Playing.{counts, fitting, room_behind};
-ghost use Rattle.agent_journal.specs.Sound.{IsSoundEffect};
-ghost use Rattle.agent_journal.specs.Wires.{sent_in};
 
-use agent_journal::Effect;
 use agent_link::{Fault, Link};
 use broker_tape::TapeLink;
-use mqtt_packet::{NoMemory, Packet, encode, spelled_len};
+use mqtt_packet::NoMemory;
 use std::alloc::AllocError;
-
-/// Spells the packets that these effects send, one behind the other.
-#[tactic(auto, using(crate::proofs::Sends::spelled_on, crate::proofs::Sends::spelled_all))]
-pub(crate) fn spell(buffer: &mut Vec<u8>, effects: &[Effect]) -> Result<(), NoMemory>
-    requires { AllByRecursion IsSoundEffect effects.now }
-    ensures { OnOk result (buffer.new.items ≡ sent_in effects.now) }
-{
-    buffer.clear();
-    for effect in effects {
-        spell_effect(buffer, effect)?;
-    }
-    Ok(())
-}
-
-#[tactic(auto, using(crate::proofs::Sends::one_spelled, crate::proofs::Sends::none_spelled))]
-fn spell_effect(buffer: &mut Vec<u8>, effect: &Effect) -> Result<(), NoMemory>
-    requires { IsSoundEffect effect.now }
-    ensures { OnOk result (buffer.new.items ≡ buffer.old.items ++ sent_in (effect.now ∷ [])) }
-{
-    match effect {
-        Effect::Send { packet } => spell_packet(buffer, packet),
-        Effect::Done { .. } | Effect::Pass { .. } | Effect::Closed { .. } => Ok(()),
-    }
-}
-
-/// Spells a packet behind what stands in the buffer.
-#[tactic(auto, using(crate::proofs::Sends::none_spelled))]
-fn spell_packet(buffer: &mut Vec<u8>, packet: &Packet) -> Result<(), NoMemory>
-    requires { spelling.is_sound packet.now ≡ true }
-    ensures { OnOk result (buffer.new.items ≡ buffer.old.items ++ spelling.spelling packet.now) }
-{
-    let start = buffer.len();
-    let end = start + spelled_len(packet);
-    buffer.resize(end, 0)?;
-    if encode(packet, &mut buffer[start..]).is_err() {
-        return Err(AllocError);
-    }
-    Ok(())
-}
 
 /// Sends as many of these bytes as the connection takes, and answers how many that is.
 #[tactic(auto, using(crate::proofs::Sends::sent_more, crate::proofs::Sends::room_more, crate::proofs::Sends::fits_more, crate::proofs::Sends::fits_whole, crate::proofs::Sends::fits_part, crate::proofs::Sends::onto_nothing))]

@@ -32,7 +32,7 @@ use Rattle.replay_rounds.specs.Lines.{submits}
 use Rattle.replay_rounds.specs.Receiving.{idles, received_by, receives}
 use Rattle.replay_rounds.specs.Rounds.{opened_by, opening, round, has_ended, after}
 use Rattle.agent_ties.specs.Counting.{HasCounted, IsUncounted}
-use Rattle.agent_ties.proofs.Counting.{bad_uncounted, due_uncounted, later_counted, failed_counted, ended_counted, nothing_counted, is_counted, plain_counted, fault_counted, end_counted, idle_counted, opened_counted}
+use Rattle.agent_ties.proofs.Counting.{no_less, same_later, bad_uncounted, due_uncounted, later_counted, failed_counted, ended_counted, nothing_counted, is_counted, plain_counted, fault_counted, end_counted, idle_counted, opened_counted}
 use Rattle.agent_ties.proofs.Dues.{due_is}
 use Rattle.replay_rounds.proofs.Kept.{IsCarried, noted_with, faulted_on, entered_with, entered_on, hands_on, by_choice, IsWalked, walk_on}
 use Rattle.agent_ties.proofs.Listening.{idle_away}
@@ -46,7 +46,7 @@ Counts w = HasCounted w.setup w.sizes w.past w.idle uncounted w.counts
 
 -- the present connection has been silent for no longer
 busy : (w : World) → Counts w → Counts (record w { idle = 0 })
-busy w h = later_counted w.setup w.sizes w.past uncounted w.idle 0 w.counts w.counts (omega arith) (record { faults = omega arith; ends = omega arith; nothings = omega arith }) h
+busy w h = later_counted w.setup w.sizes w.past uncounted w.idle 0 w.counts w.counts (omega arith) (same_later w.counts) h
 
 module _ (now : ℕ) where
   carried : IsCarried now IsUncounted Counts
@@ -56,7 +56,7 @@ module _ (now : ℕ) where
         rejected = bad_uncounted;
         entry_on = λ w cause found other e h. plain_counted w.setup w.sizes w.past uncounted now cause found e w.idle w.counts other h;
         failed_on = λ w h. failed_counted w.setup w.sizes w.past uncounted w.idle w.counts h;
-        fault_on = λ w found e h. fault_counted w.setup w.sizes w.past uncounted now found e w.idle w.counts (with_fault w.counts) (omega arith) (omega arith) (omega arith) h;
+        fault_on = λ w found e h. fault_counted w.setup w.sizes w.past uncounted now found e w.idle w.counts (with_fault w.counts) (omega arith) (no_less w.counts.ends) (no_less w.counts.nothings) h;
         shut_on = λ w h. h;
         wire_on = λ w bytes h. h;
         stream_on = λ w stream h. h;
@@ -76,11 +76,11 @@ module _ (now : ℕ) where
   ended w h =
       let u = record w { counts = with_end w.counts } in
       noted_with now IsUncounted Counts carried u (c.Broke why.End) (ended_counted w.setup w.sizes w.past uncounted w.idle w.counts h)
-      (λ found e. end_counted w.setup w.sizes w.past uncounted now found e w.idle w.counts (with_end w.counts) (omega arith) (omega arith) (omega arith) h)
+      (λ found e. end_counted w.setup w.sizes w.past uncounted now found e w.idle w.counts (with_end w.counts) (no_less w.counts.faults) (omega arith) (no_less w.counts.nothings) h)
 
   -- nothing was heard
   silent : (w : World) → Counts w → Counts (record w { idle = at_most 10000 (w.idle + 1); counts = with_nothing w.counts })
-  silent w h = nothing_counted w.setup w.sizes w.past uncounted w.idle w.counts (with_nothing w.counts) (omega arith) (omega arith) (omega arith) h
+  silent w h = nothing_counted w.setup w.sizes w.past uncounted w.idle w.counts (with_nothing w.counts) (no_less w.counts.faults) (no_less w.counts.ends) (omega arith) h
 
   -- ten thousand times in a row, and the connection counts as broken
   idles_counted : (w : World) → Counts w → Counts (idles w now)

@@ -19,6 +19,7 @@ use Rattle.agent_table.specs.Ties.{Moment, arrived, listens, is_bad_bytes, Rejec
 use Rattle.agent_ties.specs.Ties.{Ties, Handing}
 use Rattle.agent_ties.proofs.Present.{packet_row}
 use Rattle.agent_ties.proofs.Keeping.{plain_whole, plain_part, broke_ties, packet_whole, packet_part}
+use Rattle.agent_ties.proofs.Rejecting.{rejected_there, rejected_ties}
 use Rattle.replay_rounds.specs.World.{World, phase_in, row_in}
 use Rattle.replay_rounds.specs.Entering.{entered, entered_by, noted}
 use Rattle.broker_tape.specs.Given.{GivesBytes}
@@ -92,30 +93,9 @@ module _ (now : ℕ) where
         let (found, is) = packet_row now (seen w) new on time ms bs going packet e in
         entered_seen now u (c.Arrived packet) found is (Handing now new) (packet_whole now (seen w) new packet found on wired handing e is) (packet_part now (seen w) new packet found on wired handing e is)
 
-    bad_row : (reason : Why) → is_bad_bytes reason ≡ true → (found : Row) → row_in u now (c.Broke reason) ≡ Some found → listens found.phase ≡ false
-    bad_row why.Fault bad found e = absurd (cc bad)
-    bad_row why.End bad found e = absurd (cc bad)
-    bad_row why.Idle bad found e = absurd (cc bad)
-    bad_row (why.Bad offset) bad found e = let q = readings u.setup u.sizes u.past in bytes_away u.setup u.sizes q found q.phase (in_time u.setup u.sizes q now (c.Broke (why.Bad offset)) found e)
-    bad_row (why.TooLong size) bad found e = let q = readings u.setup u.sizes u.past in bytes_away u.setup u.sizes q found q.phase (in_time u.setup u.sizes q now (c.Broke (why.TooLong size)) found e)
-    bad_row why.KeepAlive bad found e = absurd (cc bad)
-    bad_row why.InFull bad found e = absurd (cc bad)
-
-    bad_there : (reason : Why) → is_bad_bytes reason ≡ true → row_in u now (c.Broke reason) ≡ None → ⊥
-    bad_there why.Fault bad none = cc bad
-    bad_there why.End bad none = cc bad
-    bad_there why.Idle bad none = cc bad
-    bad_there (why.Bad offset) bad none =
-        let q = readings u.setup u.sizes u.past in cc (sym (bytes_some u.setup u.sizes q on) ∙ ap is_some (sym (timely u.setup u.sizes q now (c.Broke (why.Bad offset)) time) ∙ none))
-    bad_there (why.TooLong size) bad none =
-        let q = readings u.setup u.sizes u.past in cc (sym (bytes_some u.setup u.sizes q on) ∙ ap is_some (sym (timely u.setup u.sizes q now (c.Broke (why.TooLong size)) time) ∙ none))
-    bad_there why.KeepAlive bad none = cc bad
-    bad_there why.InFull bad none = cc bad
-
     bad_in : (reason : Why) → is_bad_bytes reason ≡ true → ((xs : List Moment) (ys : List ℕ) → IsGoing w.stream xs ys → Rejects ys (arrived xs) reason) → Ties (seen (noted u now (c.Broke reason)))
     bad_in reason bad says =
-        noted_seen Ties now u (c.Broke reason) (λ none. absurd (bad_there reason bad none))
-        (λ found e. record { wired = noted_wired now (seen u) reason found e wired; heard = rejected_on now (seen u) reason found e (bad_row reason bad found e) (rejected (seen w) on new handing reason says) })
+        noted_seen Ties now u (c.Broke reason) (λ none. absurd (rejected_there now (seen w) on time reason bad none)) (λ found e. rejected_ties now (seen w) new on wired handing reason bad says found e)
 
     pub handed_in : (rest : World → World) (next : Next) → (next, new) ≡ next_of w.stream → ((v : World) → Handing now new (seen v) → length new.rest < length w.stream.rest → Ties (seen (rest v))) → Ties (seen (handed w now rest (next, new)))
     handed_in rest (answers.Packet packet) e on_rest = on_rest (entered u now (c.Arrived packet)) (packet_in packet e) (shorter w.stream new ms bs packet going e)

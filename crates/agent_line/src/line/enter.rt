@@ -4,7 +4,7 @@ ghost use Rattle.std.specs.Prelude.{◌≡◌, ℕ, ◌≤◌, true, false, is_s
 ghost use Rattle.agent_journal.specs.declared.entry.Cause.TheVariants as causes;
 ghost use Rattle.agent_line.specs.Entered.{IsEntered};
 ghost use Rattle.agent_line.specs.Recorded.{row_in, due_in, Enters};
-ghost use Rattle.agent_line.specs.Told.{KeepsTies, IsStill};
+ghost use Rattle.agent_line.specs.Told.{KeepsTies};
 
 use super::{Line, settle};
 use crate::recorder::Recorder;
@@ -71,7 +71,7 @@ impl Line {
     ) -> Result<bool, NoMemory>
         ensures tied { OnOk result (KeepsTies recorder.old self.old.splitter self.old.idle (⟦<L as Telling>⟧.told link.old) recorder.new self.new.splitter self.new.idle (⟦<L as Telling>⟧.told link.new)) }
         ensures due { result ≡ Ok true → (cause : _) × (due_in recorder.old now ≡ Some cause) × Enters now cause recorder.old recorder.new }
-        ensures none { result ≡ Ok false → (due_in recorder.old now ≡ None) × (recorder.new ≡ recorder.old) × IsStill (⟦<L as Telling>⟧.told link.old) (⟦<L as Telling>⟧.told link.new) }
+        ensures none { result ≡ Ok false → (due_in recorder.old now ≡ None) × (recorder.new ≡ recorder.old) × (⟦<L as Telling>⟧.told link.new ≡ ⟦<L as Telling>⟧.told link.old) }
     {
         match recorder.due(now) {
             Some(cause) => {

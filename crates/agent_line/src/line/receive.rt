@@ -8,7 +8,7 @@ ghost use Rattle.agent_ties.specs.Ties.{Handing, Ties};
 ghost use Rattle.agent_line.specs.declared.line.receive.Came.TheVariants as Came;
 ghost use Rattle.agent_line.specs.Entered.{Arrives, one_more, idled};
 ghost use Rattle.agent_line.specs.Recorded.{phase_in, Grows};
-ghost use Rattle.agent_line.specs.Told.{Told, KeepsTies, IsStill, Since};
+ghost use Rattle.agent_line.specs.Told.{Told, KeepsTies, Since};
 
 use super::{IDLE_LIMIT, Line, break_off, settle};
 use crate::recorder::Recorder;
@@ -75,7 +75,7 @@ impl Line {
         ensures stream { self.new.splitter ≡ self.old.splitter }
         ensures idle { self.new.idle ≡ one_more self.old.idle }
         ensures idled { OnOk result (recorder.new ≡ idled recorder.old (one_more self.old.idle) now) }
-        ensures still { OnOk result (IsStill (⟦<L as Telling>⟧.told link.old) (⟦<L as Telling>⟧.told link.new)) }
+        ensures same { OnOk result (⟦<L as Telling>⟧.told link.new ≡ ⟦<L as Telling>⟧.told link.old) }
     {
         self.idle = if self.idle < IDLE_LIMIT {
             self.idle + 1

@@ -9,9 +9,10 @@ ghost use Rattle.replay_rounds.specs.Entering as entering;
 ghost use Rattle.replay_agent.specs.Entries.{Makes};
 
 use crate::run::Run;
-use crate::wire::{send_all, spell};
+use crate::wire::send_all;
 use agent_core::Core;
 use agent_journal::{Cause, Phase, Why};
+use agent_line::spell;
 use agent_link::Link;
 use mqtt_packet::NoMemory;
 

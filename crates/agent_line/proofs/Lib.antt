@@ -1,0 +1,10 @@
+pub mod Spelling
+pub mod Sending
+pub mod Making
+pub mod Entered
+pub mod Following
+pub mod Since
+pub mod Growing
+pub mod Receiving
+pub mod Breaking
+pub mod Turns
