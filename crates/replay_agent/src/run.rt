@@ -8,7 +8,7 @@ ghost use Rattle.agent_script.specs.declared.script.Line.{Line};
 ghost use Rattle.agent_core.specs.Kept.{row_now};
 ghost use Rattle.replay_rounds.specs.World as worlds;
 ghost use Rattle.replay_rounds.specs.Entering as entering;
-ghost use Rattle.replay_rounds.specs.Rounds as rounds;
+ghost use Rattle.agent_ties.specs.Seen as ties;
 
 mod enter;
 mod receive;
@@ -52,7 +52,7 @@ impl Run {
         ensures journal { result.journal ≡ [] }
         ensures link { result.link ≡ unplayed tape }
         ensures clock { result.clock ≡ record { step = tick; calls = 0 } }
-        ensures stream { result.splitter ≡ rounds.fresh }
+        ensures stream { result.splitter ≡ ties.fresh }
         ensures fresh { (result.gone ≡ 0) × (result.listened ≡ 0) × (result.idle ≡ 0) }
         ensures counts { (result.notes.taken ≡ 0) × (result.notes.messages ≡ 0) }
         ensures nothing { (result.notes.closed ≡ false) × (result.notes.left ≡ false) × (result.notes.ending ≡ None) }

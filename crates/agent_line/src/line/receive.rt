@@ -41,6 +41,8 @@ impl Line {
         ensures tied { OnOk result (KeepsTies recorder.old self.old.splitter self.old.idle (⟦<L as Telling>⟧.told link.old) recorder.new self.new.splitter self.new.idle (⟦<L as Telling>⟧.told link.new)) }
         ensures grown { OnOk result (Grows now recorder.old recorder.new) }
         ensures nothing { result ≡ Ok Came.Nothing → (L.nothings link.new ≡ raised (L.nothings link.old)) × (recorder.new ≡ idled recorder.old (one_more self.old.idle) now) }
+        ensures silent { result ≡ Ok Came.Nothing → self.new.idle ≡ one_more self.old.idle }
+        ensures heard { result ≡ Ok Came.Bytes → self.new.idle ≡ 0 }
     {
         match link.recv(self.heard.as_mut_slice()) {
             Ok(Heard::Bytes(count)) => {
@@ -99,6 +101,7 @@ impl Line {
         ensures tied { OnOk result ((first : Told) → Since (Handing now self.old.splitter) first recorder.old self.old.splitter self.old.idle (⟦<L as Telling>⟧.told link.old)
             → Since Ties first recorder.new self.new.splitter self.new.idle (⟦<L as Telling>⟧.told link.new)) }
         ensures grown { OnOk result (Grows now recorder.old recorder.new) }
+        ensures idle { self.new.idle ≤ self.old.idle }
     {
         let most = self.splitter.held() as u128 + 1;
         for turn in 0..most {

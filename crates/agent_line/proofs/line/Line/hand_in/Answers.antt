@@ -68,5 +68,6 @@ loop-turn-preserved g c =
           let same = ap (λ (s : Stream). length s.rest) came.stream in
           let room = h.1 in
           (subst (λ (s : Stream). Since (Handing c.args.now s) first c.arrive.new.recorder s c.arrive.new.self.idle now) (sym came.stream) one, omega (arith, fewer, same, room));
+      idle = let less = came.idle in let before = c.loop-turn.invariant.idle in omega (arith, less, before);
       grown = grows_on c.args.now c.args.recorder.now c.loop-turn.recorder c.arrive.new.recorder c.loop-turn.invariant.grown (grows_arrived c.loop-turn.recorder c.arrive.new.recorder c.args.now c.in-Packet.packet _ now came.arrived);
     }
