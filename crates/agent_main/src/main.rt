@@ -11,7 +11,7 @@ mod top;
 use crate::std_sink::StdSink;
 use crate::std_source::StdSource;
 use crate::top::top;
-use command_words::USAGE;
+use command_words::explain;
 use std::alloc::{AllocError, Global};
 use std::process::ExitCode;
 use std::rt::Env;
@@ -24,21 +24,30 @@ const NO_WORDS: u8 = 1;
 const NO_MEMORY: u8 = 7;
 
 fn main(rt: HostRuntime) -> ExitCode {
-    let mut source = StdSource::new(rt.reader());
-    let mut sink = StdSink::new(io::writer(&rt));
     let alloc = rt.alloc();
     let status = match arguments(&rt, alloc) {
         Ok(arguments) => match words_in(alloc, arguments.as_slice()) {
-            Ok(words) => top(alloc, words.as_slice(), &mut source, &mut sink),
+            Ok(words) => run(&rt, words.as_slice()),
             Err(_) => NO_MEMORY,
         },
         Err(_) => NO_MEMORY,
     };
-    if status == NO_WORDS {
-        // A person who typed a wrong word sees what there is. Nothing depends on it.
-        let _ = eprint!(rt; "{USAGE}");
-    }
     ExitCode::from(status)
+}
+
+/// Runs the command, and tells a person who typed a wrong word what is wrong with it.
+fn run(rt: &HostRuntime, words: &[&str]) -> u8 {
+    let alloc = rt.alloc();
+    let mut source = StdSource::new(rt.reader());
+    let mut sink = StdSink::new(io::writer(rt));
+    let status = top(alloc, words, &mut source, &mut sink);
+    if status == NO_WORDS {
+        // Nothing depends on what is told here.
+        if let Ok(text) = explain(alloc, words) {
+            let _ = eprint!(rt; "{}", text.as_str());
+        }
+    }
+    status
 }
 
 /// The words behind the program's name. Where one isn't UTF-8 there are none, which is no command.
