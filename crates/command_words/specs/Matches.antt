@@ -18,6 +18,6 @@ Holds options matches (name, kinds.Flag) = Says (is_given (dashed name) options)
 Holds options matches (name, kinds.Required) = option_map (λ value. (name, Some value)) (first_value (found_of matches) name) ≡ option_of options (name, kinds.Required)
 Holds options matches (name, kinds.Optional) = option_map (λ value. (name, Some value)) (first_value (found_of matches) name) ≡ option_of options (name, kinds.Optional)
 
--- They hold each option of the table.
+-- They hold each option of a table whose rows are clear.
 abbrev pub HoldEach : List Given → ArgMatches → Table → Type 0
 HoldEach options matches table = (row : Row) → is_clear table row ≡ true → Holds options matches row

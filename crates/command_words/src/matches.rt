@@ -28,7 +28,8 @@ pub(crate) fn options_of<'a>(
 ) -> Result<Vec<Given<'a>>, WordsFault>
     requires names { tables.has_names (rows_seen rows.now) ≡ true }
     requires sound { tables.is_sound (rows_seen rows.now) ≡ true }
-    ensures { Gives (λ given. all_given given.items) result (tables.options_of (rows_seen rows.now) (texts words.now)) }
+    ensures { Gives (λ given. all_given given.items) result
+        (tables.options_of (rows_seen rows.now) (texts words.now)) }
 {
     if !are_fair(words) {
         return Err(WordsFault::Words);
@@ -56,8 +57,9 @@ fn options_found<'a>(
     rows: &[Row<'a>],
     matches: &ArgMatches<'a>,
 ) -> Result<Vec<Given<'a>>, AllocError>
-    ensures { IfOk result (λ given. (options : List spelled.Given) → tables.is_sound (rows_seen rows.now) ≡ true
-        → HoldEach options matches.now (rows_seen rows.now) → all_given given.items ≡ tables.in_rows options (rows_seen rows.now)) }
+    ensures { IfOk result (λ given. (options : List spelled.Given) →
+        tables.is_sound (rows_seen rows.now) ≡ true → HoldEach options matches.now (rows_seen rows.now) →
+        all_given given.items ≡ tables.in_rows options (rows_seen rows.now)) }
 {
     let mut given = Vec::new(alloc);
     for row in rows {
@@ -70,7 +72,8 @@ fn options_found<'a>(
 
 /// A row's option, where clap found it.
 fn option_of<'a>(row: &Row<'a>, matches: &ArgMatches<'a>) -> Option<Given<'a>>
-    ensures { (options : List spelled.Given) → Holds options matches.now (row_seen row.now) → option_map given_of result ≡ tables.option_of options (row_seen row.now) }
+    ensures { (options : List spelled.Given) → Holds options matches.now (row_seen row.now) →
+        option_map given_of result ≡ tables.option_of options (row_seen row.now) }
 {
     match row.kind {
         Kind::Required => value_option(row.name, matches),
@@ -80,7 +83,8 @@ fn option_of<'a>(row: &Row<'a>, matches: &ArgMatches<'a>) -> Option<Given<'a>>
 }
 
 fn value_option<'a>(name: &'a str, matches: &ArgMatches<'a>) -> Option<Given<'a>>
-    ensures { option_map given_of result ≡ option_map (λ value. (name.now, Some value)) (first_value (found_of matches.now) name.now) }
+    ensures { option_map given_of result ≡
+        option_map (λ value. (name.now, Some value)) (first_value (found_of matches.now) name.now) }
 {
     let value = matches.get_str(name)?;
     Some(Given {
@@ -90,7 +94,8 @@ fn value_option<'a>(name: &'a str, matches: &ArgMatches<'a>) -> Option<Given<'a>
 }
 
 fn flag_option<'a>(name: &'a str, matches: &ArgMatches<'a>) -> Option<Given<'a>>
-    ensures { (given : Bool) → Says given (one_text (found_of matches.now) name.now) → option_map given_of result ≡ cond given (Some (name.now, None)) None }
+    ensures { (given : Bool) → Says given (one_text (found_of matches.now) name.now) →
+        option_map given_of result ≡ cond given (Some (name.now, None)) None }
 {
     if matches.get_flag(name) {
         Some(Given { name, value: None })

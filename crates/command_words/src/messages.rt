@@ -6,8 +6,8 @@ use crate::tables::{BROKER, FETCH, REPLAY, SHARE, WORLD};
 use clap::Command;
 use std::alloc::{AllocError, Global};
 
-/// What is wrong with words that have no reading: what clap says of them; where it takes them, so that a value is at fault, how
-/// their command is used, with the range of each value; and without a command the list of commands.
+/// What is wrong with words that have no reading: what clap says of them; where it takes them, so that a value is at
+/// fault, how their command is used, with the range of each value; and without a command the list of commands.
 pub fn explain<'a>(alloc: Global, words: &'a [&'a str]) -> Result<String, AllocError> {
     match words {
         [] => list_of_commands(alloc),
