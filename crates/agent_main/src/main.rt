@@ -4,21 +4,20 @@
 ghost use Rattle.std.specs.Prelude.{◌≡◌, map, IfOk};
 ghost use Rattle.std.specs.String.{string_bytes};
 
+mod place;
 mod std_sink;
 mod std_source;
+mod told;
 mod top;
 
 use crate::std_sink::StdSink;
 use crate::std_source::StdSource;
+use crate::told::told;
 use crate::top::top;
-use command_words::explain;
 use std::alloc::{AllocError, Global};
 use std::process::ExitCode;
 use std::rt::Env;
 use std::{env, io};
-
-/// The status of words that have no reading.
-const NO_WORDS: u8 = 1;
 
 /// The status of want of memory.
 const NO_MEMORY: u8 = 7;
@@ -35,17 +34,14 @@ fn main(rt: HostRuntime) -> ExitCode {
     ExitCode::from(status)
 }
 
-/// Runs the command, and tells a person who typed a wrong word what is wrong with it.
+/// Runs the command, and tells a person what it came to where that isn't what was asked. Nothing depends on what is told.
 fn run(rt: &HostRuntime, words: &[&str]) -> u8 {
     let alloc = rt.alloc();
-    let mut source = StdSource::new(rt.reader());
-    let mut sink = StdSink::new(io::writer(rt));
+    let mut source = StdSource::new(alloc, rt.reader());
+    let mut sink = StdSink::new(alloc, io::writer(rt));
     let status = top(alloc, words, &mut source, &mut sink);
-    if status == NO_WORDS {
-        // Nothing depends on what is told here.
-        if let Ok(text) = explain(alloc, words) {
-            let _ = eprint!(rt; "{}", text.as_str());
-        }
+    if let Ok(text) = told(alloc, status, words, source.heard(), sink.line()) {
+        let _ = eprint!(rt; "{}", text.as_str());
     }
     status
 }

@@ -23,7 +23,7 @@ pub fn explain<'a>(alloc: Global, words: &'a [&'a str]) -> Result<String, AllocE
             } else if *name == "world" {
                 explain_options(alloc, "domeweave world", &WORLD, rest)
             } else {
-                explain_command(alloc, words)
+                explain_command(alloc, name, words)
             }
         }
     }
@@ -46,9 +46,13 @@ fn explain_options<'a>(
 }
 
 /// What clap says of a word that is no command, and the list of those that are.
-fn explain_command<'a>(alloc: Global, words: &'a [&'a str]) -> Result<String, AllocError> {
+fn explain_command<'a>(
+    alloc: Global,
+    name: &str,
+    words: &'a [&'a str],
+) -> Result<String, AllocError> {
     let list = list_of_commands(alloc)?;
-    if asks_for_help(words) {
+    if name == "help" || asks_for_help(words) {
         return Ok(list);
     }
     match program(alloc)?.try_get_matches_from(words) {
@@ -58,7 +62,7 @@ fn explain_command<'a>(alloc: Global, words: &'a [&'a str]) -> Result<String, Al
 }
 
 fn asks_for_help(words: &[&str]) -> bool {
-    words.iter().any(|word| *word == "--help" || *word == "-h" || *word == "help")
+    words.iter().any(|word| *word == "--help" || *word == "-h")
 }
 
 fn list_of_commands(alloc: Global) -> Result<String, AllocError> {
