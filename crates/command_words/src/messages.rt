@@ -57,7 +57,18 @@ fn explain_command<'a>(
     }
     match program(alloc)?.try_get_matches_from(words) {
         Ok(_) => Ok(list),
-        Err(error) => format!(in alloc; "{error}\n{}", list.as_str()),
+        Err(error) => {
+            let text = format!(in alloc; "{error}")?;
+            format!(in alloc; "{}{}", without_usage(text.as_str()), list.as_str())
+        }
+    }
+}
+
+/// What clap says in front of its usage, with which the list of commands begins too.
+fn without_usage(text: &str) -> &str {
+    match text.split_once("Usage:") {
+        Some((fault, _)) => fault,
+        None => text,
     }
 }
 
