@@ -4,41 +4,46 @@
 ghost use Rattle.std.specs.Prelude.{◌≡◌, map, IfOk};
 ghost use Rattle.std.specs.String.{string_bytes};
 
+mod place;
 mod std_sink;
 mod std_source;
+mod told;
 mod top;
 
 use crate::std_sink::StdSink;
 use crate::std_source::StdSource;
+use crate::told::told;
 use crate::top::top;
-use command_words::USAGE;
 use std::alloc::{AllocError, Global};
 use std::process::ExitCode;
 use std::rt::Env;
 use std::{env, io};
 
-/// The status of words that have no reading.
-const NO_WORDS: u8 = 1;
-
 /// The status of want of memory.
 const NO_MEMORY: u8 = 7;
 
 fn main(rt: HostRuntime) -> ExitCode {
-    let mut source = StdSource::new(rt.reader());
-    let mut sink = StdSink::new(io::writer(&rt));
     let alloc = rt.alloc();
     let status = match arguments(&rt, alloc) {
         Ok(arguments) => match words_in(alloc, arguments.as_slice()) {
-            Ok(words) => top(alloc, words.as_slice(), &mut source, &mut sink),
+            Ok(words) => run(&rt, words.as_slice()),
             Err(_) => NO_MEMORY,
         },
         Err(_) => NO_MEMORY,
     };
-    if status == NO_WORDS {
-        // A person who typed a wrong word sees what there is. Nothing depends on it.
-        let _ = eprint!(rt; "{USAGE}");
-    }
     ExitCode::from(status)
+}
+
+/// Runs the command, and tells a person what it came to where that isn't what was asked. Nothing depends on what is told.
+fn run(rt: &HostRuntime, words: &[&str]) -> u8 {
+    let alloc = rt.alloc();
+    let mut source = StdSource::new(alloc, rt.reader());
+    let mut sink = StdSink::new(alloc, io::writer(rt));
+    let status = top(alloc, words, &mut source, &mut sink);
+    if let Ok(text) = told(alloc, status, words, source.heard(), sink.line()) {
+        let _ = eprint!(rt; "{}", text.as_str());
+    }
+    status
 }
 
 /// The words behind the program's name. Where one isn't UTF-8 there are none, which is no command.

@@ -5,6 +5,7 @@ ghost use Rattle.std.specs.Io.{ReadsAtMost};
 ghost use Rattle.std.specs.Io.KnownBytes.{ReadConsumes};
 
 use agent_link::{Fault, Source};
+use std::alloc::Global;
 use std::io::Read;
 
 /// A source over any reader. Each error of the reader counts as a fault.
@@ -12,14 +13,25 @@ use std::io::Read;
 pub struct StdSource<R: Read> {
     inner: R,
     faults: u64,
+    /// What was read, as far as memory held it. Only what a person is told depends on it.
+    heard: Vec<u8>,
 }
 
 impl<R: Read> StdSource<R> {
-    pub fn new(inner: R) -> Self
+    pub fn new(alloc: Global, inner: R) -> Self
         ensures inner { result.inner ≡ inner }
         ensures faults { result.faults ≡ 0 }
     {
-        StdSource { inner, faults: 0 }
+        StdSource {
+            inner,
+            faults: 0,
+            heard: Vec::new(alloc),
+        }
+    }
+
+    /// What was read so far.
+    pub fn heard(&self) -> &[u8] {
+        self.heard.as_slice()
     }
 }
 
@@ -30,7 +42,11 @@ impl<R: Read> Source for StdSource<R> {
 
     fn read(&mut self, buf: &mut [u8]) -> Result<usize, Fault> {
         match self.inner.read(buf) {
-            Ok(count) => Ok(count),
+            Ok(count) => {
+                // A text that memory doesn't hold ends the command anyway.
+                let _ = self.heard.extend_from_slice(&buf[..count]);
+                Ok(count)
+            }
             Err(_) => {
                 self.faults = self.faults.saturating_add(1);
                 Err(Fault::Failed)

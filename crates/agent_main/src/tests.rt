@@ -9,6 +9,7 @@ mod deliveries;
 mod journals;
 mod links;
 mod replays;
+mod told;
 
 const PUBLISHED: &[u8] = b"tasks 1\n0 publish 0 a/b 6869\ntape\nopen\nhear 20020000\n";
 
@@ -113,10 +114,12 @@ fn a_fault_of_source_or_sink_is_told(rt: HostRuntime) -> Result<(), Fail> {
 fn readers_and_writers_of_std_do(rt: HostRuntime) -> Result<(), Fail> {
     let alloc = rt.alloc();
     let words = ["replay", "--client", "dev"];
-    let mut source = StdSource::new(PUBLISHED);
+    let mut source = StdSource::new(alloc, PUBLISHED);
     let mut written = Vec::new(alloc);
-    let mut sink = StdSink::new(&mut written);
+    let mut sink = StdSink::new(alloc, &mut written);
     assert_eq!(rt; top(alloc, words.as_slice(), &mut source, &mut sink), 0);
+    assert_eq!(rt; source.heard(), PUBLISHED);
+    assert_eq!(rt; sink.line(), b"ok\n".as_slice());
     assert_eq!(rt; written.as_slice(), PRINTED);
     Ok(())
 }
@@ -125,9 +128,9 @@ fn readers_and_writers_of_std_do(rt: HostRuntime) -> Result<(), Fail> {
 fn a_writer_that_is_full_has_taken_a_front(rt: HostRuntime) -> Result<(), Fail> {
     let alloc = rt.alloc();
     let words = ["replay", "--client", "dev"];
-    let mut source = StdSource::new(PUBLISHED);
+    let mut source = StdSource::new(alloc, PUBLISHED);
     let mut room = [0; 9];
-    let mut sink = StdSink::new(room.as_mut_slice());
+    let mut sink = StdSink::new(alloc, room.as_mut_slice());
     assert_eq!(rt; top(alloc, words.as_slice(), &mut source, &mut sink), 8);
     assert_eq!(rt; room.as_slice(), b"@0 opened".as_slice());
     Ok(())

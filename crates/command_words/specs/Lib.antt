@@ -1,11 +1,15 @@
 pub mod Setups
 pub mod Names
 pub mod Options
+pub mod Tables
 pub mod Given
 pub mod Reading
-pub mod Rows
+pub mod Values
 pub mod Classes
 pub mod Commands
 pub mod Ranges
 pub mod Spelling
 pub mod Laws
+pub mod Apps
+pub mod Fair
+pub mod Matches

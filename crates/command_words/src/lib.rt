@@ -1,21 +1,23 @@
 //! The command line: five commands, each with a table of its options.
 #![tactic(auto)]
 
+mod apps;
 mod classes;
 mod commands;
 mod faults;
+mod given;
 mod laws;
-mod names;
-mod options;
+mod matches;
+mod messages;
 mod rows;
 mod tables;
-mod usage;
+mod values;
 mod words;
 
 pub use commands::read_words;
 pub use faults::WordsFault;
 pub use laws::options_are_spelled;
-pub use usage::USAGE;
+pub use messages::explain;
 pub use words::{BrokerWords, FetchWords, RunWords, Size, Words, WorldWords};
 
 #[cfg(test)]

@@ -279,11 +279,89 @@ fn texts_have_their_lengths(rt: HostRuntime) -> Result<(), Fail> {
     Ok(())
 }
 
+/// What is said of the words that stand between spaces has each of these texts.
+fn says(alloc: Global, line: &str, texts: &[&str]) -> Result<bool, AllocError> {
+    let words: Vec<&str> = line.split(' ').collect(alloc)?;
+    let said = explain(alloc, words.as_slice())?;
+    Ok(texts.iter().all(|text| said.contains(text)))
+}
+
 #[test]
-fn the_usage_names_each_command(rt: HostRuntime) {
+fn a_word_that_is_no_option_is_told_with_the_similar_one(rt: HostRuntime) -> Result<(), Fail> {
+    let alloc = rt.alloc();
+    assert!(rt;
+        says(
+            alloc,
+            "replay --clent dev",
+            &["'--clent'", "'--client'", "domeweave replay"]
+        )?
+    );
+    assert!(rt;
+        says(
+            alloc,
+            "replya --client dev",
+            &["'replya'", "'replay'", "world"]
+        )?
+    );
+    Ok(())
+}
+
+#[test]
+fn a_fault_is_told_with_its_option(rt: HostRuntime) -> Result<(), Fail> {
+    let alloc = rt.alloc();
+    assert!(rt; says(alloc, "replay", &["required", "--client <CLIENT>"])?);
+    assert!(rt;
+        says(
+            alloc,
+            "replay --client dev --client x",
+            &["'--client <CLIENT>'", "multiple times"]
+        )?
+    );
+    assert!(rt;
+        says(
+            alloc,
+            "replay --client",
+            &["a value is required", "'--client <CLIENT>'"]
+        )?
+    );
+    assert!(rt;
+        says(
+            alloc,
+            "replay --client dev --wipe=yes",
+            &["'yes'", "'--wipe'"]
+        )?
+    );
+    Ok(())
+}
+
+#[test]
+fn a_value_out_of_range_gives_the_ranges(rt: HostRuntime) -> Result<(), Fail> {
+    let alloc = rt.alloc();
+    assert!(rt;
+        says(
+            alloc,
+            "world --seed 1 --events 0",
+            &["--events <COUNT>", "1 to 1000000"]
+        )?
+    );
+    assert!(rt;
+        says(
+            alloc,
+            "fetch --help",
+            &["--block <BYTES>", "256 to 65536", "4096"]
+        )?
+    );
+    Ok(())
+}
+
+#[test]
+fn without_words_the_commands_are_listed(rt: HostRuntime) -> Result<(), Fail> {
+    let alloc = rt.alloc();
+    let said = explain(alloc, [].as_slice())?;
     for name in ["replay", "share", "fetch", "broker", "world"] {
-        assert!(rt; USAGE.contains(name), "at {name}");
+        assert!(rt; said.contains(name), "at {name}");
     }
+    Ok(())
 }
 
 #[test]
