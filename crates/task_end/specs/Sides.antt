@@ -1,5 +1,5 @@
 -- What a task holds of the agent, as contracts see it.
-use Rattle.std.specs.Prelude.{◌≡◌, ℕ, ◌+◌, ◌≤◌, Bool, List, [], ◌∷◌, ◌++◌, map, take, length, Option, None, Some, if◌then◌else◌, All}
+use Rattle.std.specs.Prelude.{◌≡◌, ℕ, ◌+◌, ◌≤◌, ◌<◌, Bool, false, List, [], ◌∷◌, ◌++◌, map, take, length, Option, None, Some, if◌then◌else◌, All}
 use Rattle.std.specs.List.{flat_map}
 use Rattle.atomic_table.specs.Seated.{TableId}
 use Rattle.agent_journal.specs.declared.message.Message.{Message}
@@ -118,6 +118,10 @@ pub record IsFrontOf (got : List Note) (front : ℕ × ℕ × ℕ) : Type 0 wher
   pub within : front.2 ≤ length got
   pub seen : seen_by (take front.2 got) ≤ front.1
 
+-- a command that was sent is one of the first, this many
+abbrev pub IsBelow : ℕ → Submission → Type 0
+IsBelow next s = is_leave (request_of s) ≡ false → seq_of s < next
+
 -- What a side keeps stands for what its passes did.
 pub record IsKept (s : TaskSide) (front notes messages : ℕ) (closed : Bool) (next : ℕ) (commands : List Command) (log : List (ℕ × Outcome)) : Type 0 where
   pub seen : front ≡ seen_by s.getter.got
@@ -126,6 +130,7 @@ pub record IsKept (s : TaskSide) (front notes messages : ℕ) (closed : Bool) (n
   pub is_closed : closed ≡ has_closed s.getter.got
   pub numbered : length s.fronts ≡ next
   pub marked : map front_part s.fronts ≡ fronts_noted s.sender.sent
+  pub below : All (IsBelow next) s.sender.sent
   pub behind : All (IsFrontOf s.getter.got) s.fronts
   pub held : (x : ℕ) → times x s.permits.held ≡ times x (numbers_in s.out)
   pub told : All (WasTold s.getter.got) commands

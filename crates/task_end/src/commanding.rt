@@ -51,9 +51,12 @@ impl Commands {
         ensures next { self.new.next ≡ self.old.next }
         ensures ends { Ends seq outcome self.old.out.items self.new.out.items (outcomes_of self.old.log.items) (outcomes_of self.new.log.items) }
     {
-        if let Some(k) = place_waiting(self.out.as_slice(), seq) {
-            self.log.push_reserved((seq, logged(&outcome)));
-            self.out[k].outcome = Some(outcome);
+        match place_waiting(self.out.as_slice(), seq) {
+            Some(k) => {
+                self.log.push_reserved((seq, logged(&outcome)));
+                self.out[k].outcome = Some(outcome);
+            }
+            None => {}
         }
     }
 
@@ -64,8 +67,10 @@ impl Commands {
         ensures some { IfSome result (λ outcome. IsTakenFrom (command seq number (Some outcome)) self.old.out.items self.new.out.items) }
         ensures none { IfNone result ((self.new.out.items ≡ self.old.out.items) × (list_any (is_kept seq number) self.old.out.items ≡ false)) }
     {
-        let k = place_kept(self.out.as_slice(), seq, number)?;
-        self.out.remove(k).outcome
+        match place_kept(self.out.as_slice(), seq, number) {
+            Some(k) => self.out.remove(k).outcome,
+            None => None,
+        }
     }
 }
 

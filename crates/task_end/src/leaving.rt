@@ -1,6 +1,6 @@
 //! What a task that left may call.
 
-ghost use Rattle.std.specs.Prelude.{◌≡◌, ℕ, ◌+◌, true, [], ◌∷◌, ◌++◌, length, map, Some, IfSome, All};
+ghost use Rattle.std.specs.Prelude.{◌≡◌, ℕ, ◌+◌, true, false, List, [], ◌∷◌, ◌++◌, length, map, Some, IfSome, All};
 ghost use Rattle.std.specs.Bool.{OnTrue, OnFalse};
 ghost use Rattle.command_pool.specs.Hands.{times};
 ghost use Rattle.task_queues.specs.declared.note.Note.{Note};

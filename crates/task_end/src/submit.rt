@@ -104,7 +104,10 @@ impl<J: Named, const POOL: usize, const QUEUE: usize, const INBOX: usize>
             request: Request::Leave,
             front: None,
         };
-        self.queue.send(rt, &mut self.sender, leave).is_ok()
+        match self.queue.send(rt, &mut self.sender, leave) {
+            Ok(()) => true,
+            Err(_) => false,
+        }
     }
 }
 

@@ -28,7 +28,9 @@ impl<J: Named, const POOL: usize, const QUEUE: usize, const INBOX: usize>
         ensures empty { IfNone result (WasEmpty J.board self.old.getter) }
         ensures all { IfNone result (IfSome self.old.getter.joined (λ put. self.old.getter.got ≡ put)) }
     {
-        let note = self.mailbox.get(rt, &mut self.getter)?;
+        let Some(note) = self.mailbox.get(rt, &mut self.getter) else {
+            return None;
+        };
         self.notes = self.notes.saturating_add(1);
         match note {
             Note::Done {

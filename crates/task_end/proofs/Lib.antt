@@ -1,0 +1,4 @@
+mod Lists
+mod Cells
+mod Notings
+mod Sendings
