@@ -1,10 +1,12 @@
 -- A command more was submitted, one was collected, or a task left.
 use Rattle.std.proofs.Common.{true, false, true≢false, ◌≡◌, ◌≢◌, ℕ, zero, suc, ◌+◌, ◌<◌, ◌≤◌, ◌⊎◌, Bool, List, [], ◌∷◌, ◌++◌, map, take, max, length, Option, None, Some, IfSome, All, refl, sym, ap, ◌∙◌, subst, ⊎_elim, inl, inr, append-nil, length-append, arith}
+use Rattle.command_pool.specs.declared.hand.PoolStep.{PoolStep}
+use Rattle.command_pool.specs.Takes.{IsOnward}
 use Rattle.std.specs.List.{flat_map, list_any}
 use Rattle.std.proofs.lemmas.Bool.{cases_eq}
 use Rattle.std.proofs.lemmas.Int.{clamps}
 use Rattle.std.proofs.lemmas.Grind.{flat_map-append}
-use Rattle.std.proofs.lemmas.List.{map-append}
+use Rattle.std.proofs.lemmas.List.{map-append, append_assoc}
 use Rattle.std.proofs.lemmas.List.Elements.{All-weaker, All-push}
 use Rattle.agent_journal.specs.declared.outcome.Outcome.{Outcome}
 use Rattle.agent_journal.specs.Readings.{is_leave}
@@ -23,6 +25,10 @@ use Rattle.task_end.specs.Commands.{IsTakenFrom, Has, ticket_of, numbers_in, tic
 use Rattle.task_end.specs.Sides.{TaskSide, IsFrontOf, IsBelow, IsKept, noted, front_noted, fronts_noted, front_part}
 use Rattle.task_end.proofs.Lists.{times_both, one, one_same, one_other, once_more, once_few}
 use Rattle.task_end.proofs.Cells.{takes_waiting, takes_ticket, takes_all, times_taken, waits_if_out}
+
+-- one call behind another
+pub onward_both : (first next last : List PoolStep) → IsOnward first next → IsOnward next last → IsOnward first last
+onward_both first next last a b = (b.0 ++ a.0, b.1 ∙ ap (λ l. b.0 ++ l) a.1 ∙ sym (append_assoc b.0 a.0 first))
 
 seen_within : (before : List Note) (note : Note) (after : List Note) → number_in (front_in note) ≤ seen_by (before ++ note ∷ after)
 seen_within [] note after = omega (arith, clamps)
