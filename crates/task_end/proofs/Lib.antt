@@ -2,3 +2,4 @@ mod Lists
 mod Cells
 mod Notings
 mod Sendings
+mod Loops

@@ -57,6 +57,9 @@ stray_sent sent x got seen st = record {
 module _ (s : TaskSide) (front notes messages : ℕ) (closed : Bool) (next : ℕ) (cells : List Command) (log : List (ℕ × Outcome))
     (kept : IsKept s front notes messages closed next cells log) where
 
+  pub seen_again : (front' : ℕ) → front' ≡ front → IsKept s front' notes messages closed next cells log
+  seen_again front' e = subst (λ f. IsKept s f notes messages closed next cells log) (sym e) kept
+
   -- ---- A command more
 
   module _ (p : Pass) (sender : Sending) (x : Submission) (id : ℕ) (held : p.held ≡ id ∷ s.permits.held) (sent : sender.sent ≡ s.sender.sent ++ x ∷ [])

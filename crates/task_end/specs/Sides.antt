@@ -82,15 +82,13 @@ sending s submission = record s { sender = record s.sender { sent = s.sender.sen
 abbrev pub found_full : TaskSide → TaskSide
 found_full s = record s { sender = record s.sender { fulls = s.sender.fulls + 1 } }
 
--- What a task has behind its leave, where it took in these notes meanwhile.
-pub record IsLeft (more : List Note) (old new : TaskSide) : Type 0 where
-  pub looks : ℕ
-  pub fulls : ℕ
-  pub permits : new.permits ≡ old.permits
-  pub sender : new.sender ≡ record old.sender { sent = old.sender.sent ++ leave_of old ∷ []; fulls = old.sender.fulls + fulls }
-  pub getter : new.getter ≡ record old.getter { got = old.getter.got ++ more; empties = old.getter.empties + looks }
-  pub out : new.out ≡ old.out
-  pub fronts : new.fronts ≡ old.fronts
+-- behind tries to send, of which so many found the queue full, while these notes were got and so many looks found the mailbox
+-- empty
+abbrev pub trying : List Note → ℕ → ℕ → TaskSide → TaskSide
+trying more looks fulls s = record s {
+    sender = record s.sender { fulls = s.sender.fulls + fulls };
+    getter = record s.getter { got = s.getter.got ++ more; empties = s.getter.empties + looks };
+  }
 
 -- These notes were got, and of looks that found the mailbox empty there are this many more.
 abbrev pub IsBehind : List Note → ℕ → TaskSide → TaskSide → Type 0

@@ -13,7 +13,7 @@ ghost use Rattle.task_queues.specs.Submissions.{of_task};
 ghost use Rattle.task_queues.specs.QueuePasses.{WasFull, HoldsOf};
 ghost use Rattle.task_queues.specs.MailboxPasses.{Holds as HoldsNotes};
 ghost use Rattle.task_end.specs.Notes.{seen_by, counted};
-ghost use Rattle.task_end.specs.Sides.{IsLeft, submitted};
+ghost use Rattle.task_end.specs.Sides.{submitted, leave_of, sending, trying};
 ghost use Rattle.task_end.specs.Answers.{is_spent, none_free_in, fulls_in};
 ghost use Rattle.task_end.specs.declared.answers.SubmitFault.TheVariants as faults;
 
@@ -88,7 +88,7 @@ impl<J: Named, const POOL: usize, const QUEUE: usize, const INBOX: usize>
     /// Submits the task's Leave, tried again while the queue is full; notes are taken in meanwhile. The messages that were kept, and
     /// those that come, are given up. It takes no memory.
     pub fn leave<R: Wait>(self, rt: &R) -> LeftEnd<J, POOL, QUEUE, INBOX>
-        ensures left { (more : List Note) × IsLeft more self.side result }
+        ensures left { (more : List Note) × (looks : ℕ) × (fulls : ℕ) × (result ≡ sending (trying more looks fulls self.side) (leave_of self.side)) }
     {
         let TaskEnd { mut side, kept: _ } = self;
         for _ in rt.forever() {

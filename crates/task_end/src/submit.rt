@@ -8,7 +8,7 @@ ghost use Rattle.agent_journal.specs.Readings.{is_leave};
 ghost use Rattle.command_pool.specs.Hands.{times};
 ghost use Rattle.command_pool.specs.Passes.{Holds};
 ghost use Rattle.command_pool.specs.Takes.{IsOnward, empties};
-ghost use Rattle.task_queues.specs.Submissions.{has_leave};
+ghost use Rattle.task_queues.specs.Submissions.{has_leave, request_of};
 ghost use Rattle.task_queues.specs.QueuePasses.{WasFull};
 ghost use Rattle.task_end.specs.Notes.{seen_by, counted};
 ghost use Rattle.task_end.specs.Sides.{IsOut, submitted, leave_of, sending, found_full};
@@ -85,7 +85,7 @@ impl<J: Named, const POOL: usize, const QUEUE: usize, const INBOX: usize>
             }
             Err(back) => {
                 self.pool.give(&mut self.permits, permit);
-                Err((back.request, SubmitFault::QueueFull))
+                Err((into_request(back), SubmitFault::QueueFull))
             }
         }
     }
@@ -109,6 +109,13 @@ impl<J: Named, const POOL: usize, const QUEUE: usize, const INBOX: usize>
             Err(_) => false,
         }
     }
+}
+
+/// The request of a submission that came back.
+fn into_request(submission: Submission) -> Request
+    ensures { result ≡ request_of submission }
+{
+    submission.request
 }
 
 /// Makes room for what one command more brings.
