@@ -1,5 +1,5 @@
 -- A command more was submitted, one was collected, or a task left.
-use Rattle.std.proofs.Common.{true, false, true≢false, ◌≡◌, ◌≢◌, ℕ, zero, suc, ◌+◌, ◌<◌, ◌≤◌, ◌⊎◌, Bool, List, [], ◌∷◌, ◌++◌, map, take, max, length, Option, None, Some, IfSome, All, refl, sym, ap, ◌∙◌, subst, ⊎_elim, inl, inr, append-nil, length-append, arith}
+use Rattle.std.proofs.Common.{true, false, true≢false, ◌≡◌, ◌≢◌, ℕ, zero, suc, ◌+◌, ◌<◌, ◌≤◌, ◌⊎◌, Bool, List, [], ◌∷◌, ◌++◌, map, take, max, length, Option, None, Some, Result, Ok, Err, OnOk, IfErr, IfSome, All, refl, sym, ap, ◌∙◌, subst, ⊎_elim, inl, inr, append-nil, length-append, arith}
 use Rattle.command_pool.specs.declared.hand.PoolStep.{PoolStep}
 use Rattle.command_pool.specs.Takes.{IsOnward}
 use Rattle.std.specs.List.{flat_map, list_any}
@@ -192,3 +192,21 @@ module _ (s : TaskSide) (front notes messages : ℕ) (closed : Bool) (next : ℕ
   pub none_told : (seq number : ℕ) → Has (tickets_of cells) (seq, number) → list_any (is_kept seq number) cells ≡ false
       → NoneIsStray s.sender.sent s.getter.got → times seq (completed_in s.getter.got) ≡ 0
   none_told seq number has none_kept none = omega (arith, waits_if_out seq number cells has none_kept, kept.once none seq, once_few next seq)
+
+-- ---- A Leave, sent or refused
+
+module _ {E : Type 0} (s : TaskSide) (sender : Sending) (x : Submission) (fulls : ℕ) where
+  pub leave_tried : (r : Result (Unit {0}) E) (front notes messages : ℕ) (closed : Bool) (next : ℕ) (cells : List Command) (log : List (ℕ × Outcome))
+      → IsKept s front notes messages closed next cells log → is_leave (request_of x) ≡ true
+      → OnOk r (sender ≡ record s.sender { sent = s.sender.sent ++ x ∷ [] }) → IfErr r (λ _. sender ≡ record s.sender { fulls = fulls })
+      → s.out ≡ tickets_of cells → IsKept (record s { sender = sender }) front notes messages closed next cells log
+  leave_tried (Ok u) front notes messages closed next cells log kept leave sent full out =
+      has_left_it s front notes messages closed next cells log kept sender x (ap (λ (p : Sending). p.sent) sent) leave
+  leave_tried (Err e) front notes messages closed next cells log kept leave sent full out =
+      subst (λ o. IsKept (record s { sender = sender; out = o }) front notes messages closed next cells log) (sym out)
+          (still s front notes messages closed next cells log kept s.permits sender cells s.fronts next log refl (ap (λ (p : Sending). p.sent) full) out refl refl refl refl)
+
+  pub same_queue : (r : Result (Unit {0}) E) → OnOk r (sender ≡ record s.sender { sent = s.sender.sent ++ x ∷ [] }) → IfErr r (λ _. sender ≡ record s.sender { fulls = fulls })
+      → (sender.queue ≡ s.sender.queue) × (sender.number ≡ s.sender.number)
+  same_queue (Ok u) sent full = (ap (λ (p : Sending). p.queue) sent, ap (λ (p : Sending). p.number) sent)
+  same_queue (Err e) sent full = (ap (λ (p : Sending). p.queue) full, ap (λ (p : Sending). p.number) full)
