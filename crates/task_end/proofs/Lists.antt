@@ -18,7 +18,7 @@ set_cut [] k y within = absurd (omega (arith, within))
 set_cut (x ∷ xs) zero y within = refl
 set_cut (x ∷ xs) (suc k) y within = ap (λ l. x ∷ l) (set_cut xs k y (omega (arith, within)))
 
-some_is_none : {A : Type 0} (x : A) → Some x ≡ None → ⊥
+pub some_is_none : {A : Type 0} (x : A) → Some x ≡ None → ⊥
 some_is_none x e = cc
 
 -- where no place is found, no member passes

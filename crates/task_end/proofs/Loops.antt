@@ -1,5 +1,5 @@
 -- What rounds of a loop leave that takes in one note more.
-use Rattle.std.proofs.Common.{◌≡◌, ℕ, ◌+◌, Bool, List, [], ◌∷◌, ◌++◌, Option, IfSome, refl, sym, ap, ◌∙◌, subst, append-nil, arith}
+use Rattle.std.proofs.Common.{◌≡◌, ℕ, ◌+◌, Bool, List, [], ◌∷◌, ◌++◌, Option, None, Some, IfSome, IfNone, slice_get, refl, sym, ap, ◌∙◌, subst, append-nil, arith}
 use Rattle.std.proofs.lemmas.Grind.{flat_map-append}
 use Rattle.std.proofs.lemmas.List.{append_assoc}
 use Rattle.atomic_table.specs.Seated.{TableId}
@@ -7,6 +7,9 @@ use Rattle.agent_journal.specs.declared.message.Message.{Message}
 use Rattle.task_queues.specs.declared.note.Note.{Note}
 use Rattle.task_queues.specs.MailboxPasses.{Getting, WasEmpty}
 use Rattle.task_end.specs.declared.ticket.Ticket.{Ticket}
+use Rattle.task_end.specs.declared.answers.Told.{Told}
+use Rattle.task_end.specs.Answers.{told_in, IsNext, looks_for}
+use Rattle.task_end.proofs.Lists.{some_is_none}
 use Rattle.task_end.specs.Notes.{message_in, messages_in}
 use Rattle.task_end.specs.Sides.{TaskSide, Tasking, took, keeping, trying, found_empty, found_full, IsOut, IsGivenBack, IsSameSent, IsBehind, WasFoundEmpty}
 
@@ -83,3 +86,31 @@ module _ (more : List Note) (looks fulls : ℕ) (first s : TaskSide) (e : s ≡ 
   pub found_empty_on : (new : TaskSide) → new ≡ found_empty s → new ≡ trying more (looks + 1) fulls first
   found_empty_on new n = n ∙ ap found_empty e
       ∙ (λ i. record (trying more looks fulls first) { getter = record first.getter { got = first.getter.got ++ more; empties = more_of first.getter.empties looks i } })
+
+-- ---- The next note, where no message is kept
+
+pub none_there : {A : Type 0} (l : List A) → slice_get l 0 ≡ None → l ≡ []
+none_there [] e = refl
+none_there (x ∷ l) e = absurd (some_is_none x e)
+
+zero_more : (n : ℕ) → n ≡ n + 0
+zero_more n = omega arith
+
+pub next_of : (r : Option Told) (kept left : List (Message × ℕ)) (first new : TaskSide) → kept ≡ [] → left ≡ []
+    → IfSome r (λ told. (note : Note) × (told_in note ≡ told) × (new ≡ took (note ∷ []) first)) → IfNone r (new ≡ found_empty first)
+    → (more : List Note) × IsBehind more (looks_for r) first new × IsNext kept r more left
+next_of None kept left first new none gone some empty = ([],
+    ap (λ (t : TaskSide). t.getter) empty ∙ (λ i. record first.getter { got = sym (append-nil first.getter.got) i; empties = first.getter.empties + 1 }),
+    subst (λ k. IsNext k None [] left) (sym none) (refl, gone))
+next_of (Some told) kept left first new none gone some empty = (some.0 ∷ [],
+    ap (λ (t : TaskSide). t.getter) some.2 ∙ (λ i. record first.getter { got = first.getter.got ++ some.0 ∷ []; empties = zero_more first.getter.empties i }),
+    subst (λ k. IsNext k (Some told) (some.0 ∷ []) left) (sym none) (ap Some (sym some.1), gone))
+
+-- a round in which the queue was full, and a note was taken in where there was one
+pub tried_on : (r : Option Told) (more : List Note) (looks fulls : ℕ) (first s refused new : TaskSide) → s ≡ trying more looks fulls first → refused ≡ found_full s
+    → IfSome r (λ told. (note : Note) × (told_in note ≡ told) × (new ≡ took (note ∷ []) refused)) → IfNone r (new ≡ found_empty refused)
+    → (m : List Note) × (l : ℕ) × (f : ℕ) × (new ≡ trying m l f first)
+tried_on None more looks fulls first s refused new e full some none = (more, looks + 1, fulls + 1,
+    found_empty_on more looks (fulls + 1) first refused (found_full_on more looks fulls first s e refused full) new none)
+tried_on (Some told) more looks fulls first s refused new e full some none = (more ++ some.0 ∷ [], looks, fulls + 1,
+    trying_on more looks (fulls + 1) first refused (found_full_on more looks fulls first s e refused full) some.0 new some.2)

@@ -206,7 +206,8 @@ module _ {E : Type 0} (s : TaskSide) (sender : Sending) (x : Submission) (fulls 
       subst (λ o. IsKept (record s { sender = sender; out = o }) front notes messages closed next cells log) (sym out)
           (still s front notes messages closed next cells log kept s.permits sender cells s.fronts next log refl (ap (λ (p : Sending). p.sent) full) out refl refl refl refl)
 
-  pub same_queue : (r : Result (Unit {0}) E) → OnOk r (sender ≡ record s.sender { sent = s.sender.sent ++ x ∷ [] }) → IfErr r (λ _. sender ≡ record s.sender { fulls = fulls })
-      → (sender.queue ≡ s.sender.queue) × (sender.number ≡ s.sender.number)
-  same_queue (Ok u) sent full = (ap (λ (p : Sending). p.queue) sent, ap (λ (p : Sending). p.number) sent)
-  same_queue (Err e) sent full = (ap (λ (p : Sending). p.queue) full, ap (λ (p : Sending). p.number) full)
+pub same_queue : {E : Type 0} (old new : Sending) (x : Submission) (fulls : ℕ) (r : Result (Unit {0}) E)
+    → OnOk r (new ≡ record old { sent = old.sent ++ x ∷ [] }) → IfErr r (λ _. new ≡ record old { fulls = fulls })
+    → (new.queue ≡ old.queue) × (new.number ≡ old.number)
+same_queue old new x fulls (Ok u) sent full = (ap (λ (p : Sending). p.queue) sent, ap (λ (p : Sending). p.number) sent)
+same_queue old new x fulls (Err e) sent full = (ap (λ (p : Sending). p.queue) full, ap (λ (p : Sending). p.number) full)

@@ -16,5 +16,8 @@ outcome_of logged.SessionLost = outcomes.SessionLost
 outcome_of logged.Cancelled = outcomes.Cancelled
 outcome_of logged.NoMemory = outcomes.NoMemory
 
+abbrev pub completion_of : ℕ × Logged → ℕ × Outcome
+completion_of done = (done.0, outcome_of done.1)
+
 abbrev pub outcomes_of : List (ℕ × Logged) → List (ℕ × Outcome)
-outcomes_of log = map (λ done. (done.0, outcome_of done.1)) log
+outcomes_of log = map completion_of log

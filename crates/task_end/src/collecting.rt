@@ -40,7 +40,7 @@ impl<J: Named, const POOL: usize, const QUEUE: usize, const INBOX: usize>
                 Ok(outcome) => return Collected::Got(outcome),
                 Err(back) => ticket = back,
             }
-            if self.kept.is_full() {
+            if self.kept.len() == INBOX {
                 return Collected::MessagesFirst(ticket);
             }
             if !self.take_in(rt) {

@@ -1,6 +1,6 @@
 //! The making of a task's end, its submissions and its leave.
 
-ghost use Rattle.std.specs.Prelude.{◌≡◌, ℕ, ◌+◌, nat_le, true, false, List, [], ◌∷◌, ◌++◌, length, IfOk, IfErr};
+ghost use Rattle.std.specs.Prelude.{◌≡◌, ℕ, ◌+◌, ◌<◌, nat_le, true, false, List, [], ◌∷◌, ◌++◌, length, IfOk, IfErr};
 ghost use Rattle.std.specs.Bool.{OnTrue};
 ghost use Rattle.std.specs.Arc.{arc_value};
 ghost use Rattle.agent_journal.specs.Requests.{is_valid};
@@ -36,6 +36,7 @@ impl<J: Named, const POOL: usize, const QUEUE: usize, const INBOX: usize>
 {
     /// A task's end of fresh passes, with room for the messages that it keeps. `Err` where memory runs out.
     pub fn new(alloc: Global, parts: Parts<J, POOL, QUEUE, INBOX>) -> Result<Self, AllocError>
+        requires size { 0 < INBOX }
         requires task { parts.sender.number ≡ parts.task }
         requires pool { (parts.permits.pool ≡ arc_value parts.pool) × (parts.permits.held ≡ []) }
         requires queue { (parts.sender.queue ≡ arc_value parts.queue) × (parts.sender.sent ≡ []) }

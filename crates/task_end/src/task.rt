@@ -21,7 +21,7 @@ pub struct TaskEnd<J: Named, const POOL: usize, const QUEUE: usize, const INBOX:
 impl<J: Named, const POOL: usize, const QUEUE: usize, const INBOX: usize> Model
     for TaskEnd<J, POOL, QUEUE, INBOX>
 {
-    ghost use Rattle.std.specs.Prelude.{◌≡◌, false, length};
+    ghost use Rattle.std.specs.Prelude.{◌≡◌, ◌<◌, false, length};
     ghost use Rattle.task_queues.specs.Submissions.{has_leave};
     ghost use Rattle.task_end.specs.Sides.{Tasking};
 
@@ -29,7 +29,7 @@ impl<J: Named, const POOL: usize, const QUEUE: usize, const INBOX: usize> Model
 
     ghost view = { λ t. record { side = t.side; kept = t.kept.items } };
 
-    ghost invariant = { λ t. (t.kept.capacity ≡ INBOX) × (has_leave t.side.sender.sent ≡ false) × (length t.side.sender.sent ≡ length t.side.fronts) };
+    ghost invariant = { λ t. (t.kept.capacity ≡ INBOX) × (0 < INBOX) × (has_leave t.side.sender.sent ≡ false) × (length t.side.sender.sent ≡ length t.side.fronts) };
 }
 
 /// What the end of a task is made of: its number, and each pass with what it is a pass of.

@@ -105,7 +105,7 @@ impl<J: Named, const POOL: usize, const QUEUE: usize, const INBOX: usize>
             messages,
             ..
         } = self;
-        let got = commands.log.len() as u32;
+        let got = commands.log.as_slice().len() as u32;
         let Commands { next, log, .. } = commands;
         let log = TaskLog {
             task,
