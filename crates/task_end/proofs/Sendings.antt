@@ -1,5 +1,5 @@
 -- A command more was submitted, one was collected, or a task left.
-use Rattle.std.proofs.Common.{true, false, true≢false, ◌≡◌, ◌≢◌, ℕ, zero, suc, ◌+◌, ◌<◌, ◌≤◌, ◌⊎◌, Bool, List, [], ◌∷◌, ◌++◌, map, take, max, length, Option, None, Some, Result, Ok, Err, OnOk, IfErr, IfSome, All, refl, sym, ap, ◌∙◌, subst, ⊎_elim, inl, inr, append-nil, length-append, arith}
+use Rattle.std.proofs.Common.{true, false, true≢false, ◌≡◌, ◌≢◌, ℕ, zero, suc, ◌+◌, ◌<◌, ◌≤◌, ◌⊎◌, Bool, List, [], ◌∷◌, ◌++◌, map, take, max, length, Option, None, Some, Result, Ok, Err, OnOk, IfOk, IfErr, IfSome, All, refl, sym, ap, ◌∙◌, subst, ⊎_elim, inl, inr, append-nil, length-append, arith}
 use Rattle.command_pool.specs.declared.hand.PoolStep.{PoolStep}
 use Rattle.command_pool.specs.Takes.{IsOnward}
 use Rattle.std.specs.List.{flat_map, list_any}
@@ -11,7 +11,7 @@ use Rattle.std.proofs.lemmas.List.Elements.{All-weaker, All-push}
 use Rattle.agent_journal.specs.declared.outcome.Outcome.{Outcome}
 use Rattle.agent_journal.specs.Readings.{is_leave}
 use Rattle.command_pool.specs.Hands.{times, without}
-use Rattle.command_pool.specs.Passes.{Pass}
+use Rattle.command_pool.specs.Passes.{Pass, Holds}
 use Rattle.command_pool.specs.Rule.{once_below}
 use Rattle.command_pool.proofs.Held.{times-without_same, times-without_other}
 use Rattle.task_queues.specs.declared.note.Note.{Note}
@@ -20,9 +20,12 @@ use Rattle.task_queues.specs.Submissions.{request_of, seq_of}
 use Rattle.task_queues.specs.Fronts.{front_in, front_of}
 use Rattle.task_queues.specs.QueuePasses.{Sending}
 use Rattle.task_end.specs.declared.command.Command.{Command}
+use Rattle.task_end.specs.declared.ticket.Ticket.{Ticket}
 use Rattle.task_end.specs.Notes.{outcomes_in, completed_in, seen_by, number_in, counted}
 use Rattle.task_end.specs.Commands.{IsTakenFrom, Has, ticket_of, numbers_in, tickets_of, waits, waiting, IsOnce, WasTold, IsStray, IsOtherOrBehind, NoneIsStray, command, is_kept}
-use Rattle.task_end.specs.Sides.{TaskSide, IsFrontOf, IsBelow, IsKept, noted, front_noted, fronts_noted, front_part}
+use Rattle.task_end.specs.Sides.{TaskSide, IsOut, IsFrontOf, IsBelow, IsKept, noted, front_noted, fronts_noted, front_part}
+use Rattle.task_end.specs.declared.log.TaskLog.{TaskLog}
+use Rattle.task_end.specs.Logs.{IsLogOf}
 use Rattle.task_end.proofs.Lists.{times_both, one, one_same, one_other, once_more, once_few}
 use Rattle.task_end.proofs.Cells.{takes_waiting, takes_ticket, takes_all, times_taken, waits_if_out}
 
@@ -211,3 +214,12 @@ pub same_queue : {E : Type 0} (old new : Sending) (x : Submission) (fulls : ℕ)
     → (new.queue ≡ old.queue) × (new.number ≡ old.number)
 same_queue old new x fulls (Ok u) sent full = (ap (λ (p : Sending). p.queue) sent, ap (λ (p : Sending). p.number) sent)
 same_queue old new x fulls (Err e) sent full = (ap (λ (p : Sending). p.queue) full, ap (λ (p : Sending). p.number) full)
+
+-- the ticket of a request that was submitted is out
+pub out_last : {E : Type 0} (r : Result Ticket E) (old new : TaskSide) → IfOk r (λ t. Holds new.permits t.permit) → IfOk r (λ t. new.out ≡ old.out ++ (t.seq, t.permit.id) ∷ [])
+    → IfOk r (λ t. IsOut t new)
+out_last (Ok t) old new holds out = (holds.0, (old.out ++ [], record { before = old.out; after = []; stood = out; others = refl }))
+out_last (Err e) old new holds out = tt
+
+pub log_again : (s again : TaskSide) (log : TaskLog) → s ≡ again → IsLogOf s log → IsLogOf again log
+log_again s again log e is = subst (λ t. IsLogOf t log) e is

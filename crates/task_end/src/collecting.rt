@@ -62,7 +62,7 @@ impl<J: Named, const POOL: usize, const QUEUE: usize, const INBOX: usize>
             if let Some((message, at)) = self.kept.pop_front() {
                 return NextMessage::Message(message, at);
             }
-            if self.side.closed {
+            if self.side.is_closed() {
                 return NextMessage::Closed;
             }
             if !self.take_in(rt) {

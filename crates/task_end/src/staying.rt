@@ -13,7 +13,7 @@ ghost use Rattle.task_queues.specs.Submissions.{of_task};
 ghost use Rattle.task_queues.specs.QueuePasses.{WasFull, HoldsOf};
 ghost use Rattle.task_queues.specs.MailboxPasses.{Holds as HoldsNotes};
 ghost use Rattle.task_end.specs.Notes.{seen_by, counted};
-ghost use Rattle.task_end.specs.Sides.{submitted, leave_of, sending, trying};
+ghost use Rattle.task_end.specs.Sides.{IsOut, submitted, leave_of, sending, trying};
 ghost use Rattle.task_end.specs.Answers.{is_spent, none_free_in, fulls_in};
 ghost use Rattle.task_end.specs.declared.answers.SubmitFault.TheVariants as faults;
 
@@ -72,6 +72,7 @@ impl<J: Named, const POOL: usize, const QUEUE: usize, const INBOX: usize>
         ensures fresh { IfOk result (λ t. times t.permit.id self.old.side.permits.held ≡ 0) }
         ensures holds { IfOk result (λ t. Holds self.new.side.permits t.permit) }
         ensures out { IfOk result (λ t. self.new.side.out ≡ self.old.side.out ++ (t.seq, t.permit.id) ∷ []) }
+        ensures is_out { IfOk result (λ t. IsOut t self.new.side) }
         ensures fronts { IfOk result (λ t. self.new.side.fronts ≡ self.old.side.fronts ++ (t.seq, seen_by self.old.side.getter.got, counted self.old.side.getter.got) ∷ []) }
         ensures back { IfErr result (λ e. e.0 ≡ request) }
         ensures unsent { IfErr result (λ _. (self.new.side.sender.sent ≡ self.old.side.sender.sent) × (self.new.side.fronts ≡ self.old.side.fronts)) }

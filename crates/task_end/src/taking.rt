@@ -4,7 +4,7 @@ ghost use Rattle.std.specs.Prelude.{◌≡◌, [], ◌∷◌, Ok, Err, IfOk, IfE
 ghost use Rattle.command_pool.specs.Hands.{times};
 ghost use Rattle.task_queues.specs.declared.note.Note.{Note};
 ghost use Rattle.task_queues.specs.MailboxPasses.{WasEmpty};
-ghost use Rattle.task_end.specs.Notes.{outcomes_in, completed_in};
+ghost use Rattle.task_end.specs.Notes.{outcomes_in, completed_in, has_closed};
 ghost use Rattle.task_end.specs.Commands.{Has, NoneIsStray};
 ghost use Rattle.task_end.specs.Sides.{took, found_empty, IsOut, IsGivenBack, IsSameSent};
 ghost use Rattle.task_end.specs.Answers.{told_in};
@@ -54,6 +54,13 @@ impl<J: Named, const POOL: usize, const QUEUE: usize, const INBOX: usize>
                 Some(Told::Closed)
             }
         }
+    }
+
+    /// Whether the task was told that no more messages will come.
+    pub fn is_closed(&self) -> bool
+        ensures { result ≡ has_closed self.now.getter.got }
+    {
+        self.closed
     }
 
     /// The outcome of a ticket's command, where it was taken in; its number is given back. Else the ticket comes back.
