@@ -129,7 +129,7 @@ module _ (seq number : ℕ) (all : List Command) (k : ℕ) (x : Command) (found 
   pub same_waiting : waiting (remove all k) ≡ waiting all
   same_waiting = waiting_both (take k all) (drop (suc k) all)
       ∙ sym (ap waiting (cut all k x within ∙ ap (λ c. take k all ++ c ∷ drop (suc k) all) (sym at)) ∙ waiting_both (take k all) (x ∷ drop (suc k) all)
-          ∙ ap (λ l. waiting (take k all) ++ (l ++ waiting (drop (suc k) all))) (unless_kept x.seq x.outcome parts_of.1))
+      ∙ ap (λ l. waiting (take k all) ++ (l ++ waiting (drop (suc k) all))) (unless_kept x.seq x.outcome parts_of.1))
 
 module _ (seq number : ℕ) (outcome : Outcome) (old new : List Command) (t : IsTakenFrom (command seq number (Some outcome)) old new) where
   pub takes_waiting : waiting new ≡ waiting old
@@ -137,11 +137,11 @@ module _ (seq number : ℕ) (outcome : Outcome) (old new : List Command) (t : Is
 
   pub takes_ticket : IsTakenFrom (seq, number) (tickets_of old) (tickets_of new)
   takes_ticket = record {
-      before = tickets_of t.before;
-      after = tickets_of t.after;
-      stood = ap tickets_of t.stood ∙ map-append ticket_of t.before (command seq number (Some outcome) ∷ t.after);
-      others = ap tickets_of t.others ∙ map-append ticket_of t.before t.after;
-    }
+    before = tickets_of t.before;
+    after = tickets_of t.after;
+    stood = ap tickets_of t.stood ∙ map-append ticket_of t.before (command seq number (Some outcome) ∷ t.after);
+    others = ap tickets_of t.others ∙ map-append ticket_of t.before t.after;
+  }
 
   pub takes_all : (P : Command → Type 0) → All P old → All P new × P (command seq number (Some outcome))
   takes_all P all = subst (λ l. All P l × P (command seq number (Some outcome))) (sym t.others)
@@ -149,9 +149,14 @@ module _ (seq number : ℕ) (outcome : Outcome) (old new : List Command) (t : Is
 
 -- how often a number stands among those of tickets, where one of them is taken out
 pub times_taken : (t : ℕ × ℕ) (old new : List (ℕ × ℕ)) → IsTakenFrom t old new → (x : ℕ) → times x (numbers_in new) + one x t.1 ≡ times x (numbers_in old)
-times_taken t old new is x = omega (arith, ap (λ l. times x (numbers_in l)) is.stood, ap (λ l. times x (numbers_in l)) is.others,
-    ap (times x) (map-append (λ (u : ℕ × ℕ). u.1) is.before (t ∷ is.after)), ap (times x) (map-append (λ (u : ℕ × ℕ). u.1) is.before is.after),
-    times_middle x t.1 (numbers_in is.before) (numbers_in is.after))
+times_taken t old new is x = omega (
+  arith,
+  ap (λ l. times x (numbers_in l)) is.stood,
+  ap (λ l. times x (numbers_in l)) is.others,
+  ap (times x) (map-append (λ (u : ℕ × ℕ). u.1) is.before (t ∷ is.after)),
+  ap (times x) (map-append (λ (u : ℕ × ℕ). u.1) is.before is.after),
+  times_middle x t.1 (numbers_in is.before) (numbers_in is.after),
+)
 
 -- ---- A ticket that is out, and whose outcome isn't kept
 

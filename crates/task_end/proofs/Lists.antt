@@ -69,10 +69,14 @@ pub once_more : (count x : ℕ) → once_below (count + 1) x ≡ once_below coun
 once_more count x = ⊎_elim
     (λ below. omega (arith, once_lt count x below, once_lt (count + 1) x (omega (arith, below)), one_other x count (λ e. omega (arith, e, below))))
     (λ above. ⊎_elim
-        (λ e. omega (arith, once_lt (count + 1) x (omega (arith, e)), one_same x count e, ap (λ (b : Bool). if◌then◌else◌ {A = ℕ} b 1 0) (le-ltb x count above)))
-        (λ apart. omega (arith, one_other x count apart, ap (λ (b : Bool). if◌then◌else◌ {A = ℕ} b 1 0) (le-ltb x count above),
-            ap (λ (b : Bool). if◌then◌else◌ {A = ℕ} b 1 0) (le-ltb x (count + 1) (past above apart))))
-        (cases_eq x count))
+    (λ e. omega (arith, once_lt (count + 1) x (omega (arith, e)), one_same x count e, ap (λ (b : Bool). if◌then◌else◌ {A = ℕ} b 1 0) (le-ltb x count above)))
+    (λ apart. omega (
+      arith,
+      one_other x count apart,
+      ap (λ (b : Bool). if◌then◌else◌ {A = ℕ} b 1 0) (le-ltb x count above),
+      ap (λ (b : Bool). if◌then◌else◌ {A = ℕ} b 1 0) (le-ltb x (count + 1) (past above apart)),
+    ))
+    (cases_eq x count))
     (cases_lt x count)
   where
     past : count ≤ x → x ≢ count → count + 1 ≤ x

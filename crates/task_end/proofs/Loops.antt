@@ -26,9 +26,9 @@ keeping_none t = λ i. record { side = took_none t.side i; kept = sym (append-ni
 pub keeping_on : (more : List Note) (note : Note) (first t new : Tasking) → t ≡ keeping more first → new ≡ keeping (note ∷ []) t → new ≡ keeping (more ++ note ∷ []) first
 keeping_on more note first t new e n = n ∙ ap (keeping (note ∷ [])) e
     ∙ (λ i. record {
-        side = record first.side { getter = record first.side.getter { got = append_assoc first.side.getter.got more (note ∷ []) i } };
-        kept = (append_assoc first.kept (messages_in more) (messages_in (note ∷ [])) ∙ ap (λ l. first.kept ++ l) (sym (flat_map-append message_in more (note ∷ [])))) i;
-      })
+      side = record first.side { getter = record first.side.getter { got = append_assoc first.side.getter.got more (note ∷ []) i } };
+      kept = (append_assoc first.kept (messages_in more) (messages_in (note ∷ [])) ∙ ap (λ l. first.kept ++ l) (sym (flat_map-append message_in more (note ∷ [])))) i;
+    })
 
 module _ (more : List Note) (first s : TaskSide) (e : s ≡ took more first) where
   pub behind_notes : IsBehind more 0 first s
@@ -43,7 +43,7 @@ module _ (more : List Note) (first s : TaskSide) (e : s ≡ took more first) whe
   pub was_empty : (board : TableId) (new : TaskSide) → new ≡ found_empty s → WasEmpty board s.getter → WasFoundEmpty board first.getter.empties new.getter
   was_empty board new n empty = subst (WasEmpty board) (sym
       (ap (λ (t : TaskSide). record t.getter { empties = first.getter.empties }) n
-        ∙ (λ i. record s.getter { empties = ap (λ (t : TaskSide). t.getter.empties) (sym e) i }))) empty
+      ∙ (λ i. record s.getter { empties = ap (λ (t : TaskSide). t.getter.empties) (sym e) i }))) empty
 
   pub still_out : (t : Ticket) → IsOut t first → IsOut t s
   still_out t is = subst (IsOut t) (sym e) is
@@ -67,9 +67,9 @@ more_of n m = omega arith
 
 pub trying_none : (s : TaskSide) → s ≡ trying [] 0 0 s
 trying_none s = λ i. record s {
-    sender = record s.sender { fulls = none_more s.sender.fulls i };
-    getter = record s.getter { got = sym (append-nil s.getter.got) i; empties = none_more s.getter.empties i };
-  }
+  sender = record s.sender { fulls = none_more s.sender.fulls i };
+  getter = record s.getter { got = sym (append-nil s.getter.got) i; empties = none_more s.getter.empties i };
+}
   where
     none_more : (n : ℕ) → n ≡ n + 0
     none_more n = omega arith
@@ -99,18 +99,30 @@ zero_more n = omega arith
 pub next_of : (r : Option Told) (kept left : List (Message × ℕ)) (first new : TaskSide) → kept ≡ [] → left ≡ []
     → IfSome r (λ told. (note : Note) × (told_in note ≡ told) × (new ≡ took (note ∷ []) first)) → IfNone r (new ≡ found_empty first)
     → (more : List Note) × IsBehind more (looks_for r) first new × IsNext kept r more left
-next_of None kept left first new none gone some empty = ([],
-    ap (λ (t : TaskSide). t.getter) empty ∙ (λ i. record first.getter { got = sym (append-nil first.getter.got) i; empties = first.getter.empties + 1 }),
-    subst (λ k. IsNext k None [] left) (sym none) (refl, gone))
-next_of (Some told) kept left first new none gone some empty = (some.0 ∷ [],
-    ap (λ (t : TaskSide). t.getter) some.2 ∙ (λ i. record first.getter { got = first.getter.got ++ some.0 ∷ []; empties = zero_more first.getter.empties i }),
-    subst (λ k. IsNext k (Some told) (some.0 ∷ []) left) (sym none) (ap Some (sym some.1), gone))
+next_of None kept left first new none gone some empty = (
+  [],
+  ap (λ (t : TaskSide). t.getter) empty ∙ (λ i. record first.getter { got = sym (append-nil first.getter.got) i; empties = first.getter.empties + 1 }),
+  subst (λ k. IsNext k None [] left) (sym none) (refl, gone),
+)
+next_of (Some told) kept left first new none gone some empty = (
+  some.0 ∷ [],
+  ap (λ (t : TaskSide). t.getter) some.2 ∙ (λ i. record first.getter { got = first.getter.got ++ some.0 ∷ []; empties = zero_more first.getter.empties i }),
+  subst (λ k. IsNext k (Some told) (some.0 ∷ []) left) (sym none) (ap Some (sym some.1), gone),
+)
 
 -- a round in which the queue was full, and a note was taken in where there was one
 pub tried_on : (r : Option Told) (more : List Note) (looks fulls : ℕ) (first s refused new : TaskSide) → s ≡ trying more looks fulls first → refused ≡ found_full s
     → IfSome r (λ told. (note : Note) × (told_in note ≡ told) × (new ≡ took (note ∷ []) refused)) → IfNone r (new ≡ found_empty refused)
     → (m : List Note) × (l : ℕ) × (f : ℕ) × (new ≡ trying m l f first)
-tried_on None more looks fulls first s refused new e full some none = (more, looks + 1, fulls + 1,
-    found_empty_on more looks (fulls + 1) first refused (found_full_on more looks fulls first s e refused full) new none)
-tried_on (Some told) more looks fulls first s refused new e full some none = (more ++ some.0 ∷ [], looks, fulls + 1,
-    trying_on more looks (fulls + 1) first refused (found_full_on more looks fulls first s e refused full) some.0 new some.2)
+tried_on None more looks fulls first s refused new e full some none = (
+  more,
+  looks + 1,
+  fulls + 1,
+  found_empty_on more looks (fulls + 1) first refused (found_full_on more looks fulls first s e refused full) new none,
+)
+tried_on (Some told) more looks fulls first s refused new e full some none = (
+  more ++ some.0 ∷ [],
+  looks,
+  fulls + 1,
+  trying_on more looks (fulls + 1) first refused (found_full_on more looks fulls first s e refused full) some.0 new some.2,
+)

@@ -30,20 +30,26 @@ seen_snoc [] note = omega (arith, clamps)
 seen_snoc (n ∷ got) note = omega (arith, clamps, seen_snoc got note)
 
 has_more : {A : Type 0} (x y : A) (xs : List A) → Has xs x → Has (xs ++ y ∷ []) x
-has_more x y xs has = (has.1.before ++ (has.1.after ++ y ∷ []), record {
-      before = has.1.before;
-      after = has.1.after ++ y ∷ [];
-      stood = ap (λ l. l ++ y ∷ []) has.1.stood ∙ append_assoc has.1.before (x ∷ has.1.after) (y ∷ []);
-      others = refl;
-    })
+has_more x y xs has = (
+  has.1.before ++ (has.1.after ++ y ∷ []),
+  record {
+    before = has.1.before;
+    after = has.1.after ++ y ∷ [];
+    stood = ap (λ l. l ++ y ∷ []) has.1.stood ∙ append_assoc has.1.before (x ∷ has.1.after) (y ∷ []);
+    others = refl;
+  },
+)
 
 has_all : {A : Type 0} (x : A) (xs ys : List A) → Has xs x → Has (xs ++ ys) x
-has_all x xs ys has = (has.1.before ++ (has.1.after ++ ys), record {
-      before = has.1.before;
-      after = has.1.after ++ ys;
-      stood = ap (λ l. l ++ ys) has.1.stood ∙ append_assoc has.1.before (x ∷ has.1.after) ys;
-      others = refl;
-    })
+has_all x xs ys has = (
+  has.1.before ++ (has.1.after ++ ys),
+  record {
+    before = has.1.before;
+    after = has.1.after ++ ys;
+    stood = ap (λ l. l ++ ys) has.1.stood ∙ append_assoc has.1.before (x ∷ has.1.after) ys;
+    others = refl;
+  },
+)
 
 module _ (got more : List Note) (note : Note) (e : more ≡ got ++ note ∷ []) where
   pub outcomes_more : outcomes_in more ≡ outcomes_in got ++ outcomes_in (note ∷ [])
@@ -63,15 +69,15 @@ module _ (got more : List Note) (note : Note) (e : more ≡ got ++ note ∷ []) 
 
   pub stray_more : (sent : List Submission) → IsStray sent got → IsStray sent more
   stray_more sent st = record {
-      before = st.before;
-      note = st.note;
-      after = st.after ++ note ∷ [];
-      seq = st.seq;
-      outcome = st.outcome;
-      stands = e ∙ ap (λ l. l ++ note ∷ []) st.stands ∙ append_assoc st.before (st.note ∷ st.after) (note ∷ []);
-      completes = st.completes;
-      again_or_early = st.again_or_early;
-    }
+    before = st.before;
+    note = st.note;
+    after = st.after ++ note ∷ [];
+    seq = st.seq;
+    outcome = st.outcome;
+    stands = e ∙ ap (λ l. l ++ note ∷ []) st.stands ∙ append_assoc st.before (st.note ∷ st.after) (note ∷ []);
+    completes = st.completes;
+    again_or_early = st.again_or_early;
+  }
 
   pub none_before : (sent : List Submission) → NoneIsStray sent more → NoneIsStray sent got
   none_before sent none st = none (stray_more sent st)
@@ -85,9 +91,9 @@ module _ (got more : List Note) (note : Note) (e : more ≡ got ++ note ∷ []) 
 
   front_more : (front : ℕ × ℕ × ℕ) → IsFrontOf got front → IsFrontOf more front
   front_more front is = record {
-      within = omega (arith, is.within, length_more);
-      seen = subst (λ l. seen_by l ≤ front.1) (sym (ap (take front.2) e ∙ take-append-le front.2 got (note ∷ []) is.within)) is.seen;
-    }
+    within = omega (arith, is.within, length_more);
+    seen = subst (λ l. seen_by l ≤ front.1) (sym (ap (take front.2) e ∙ take-append-le front.2 got (note ∷ []) is.within)) is.seen;
+  }
 
   pub fronts_more : (fronts : List (ℕ × ℕ × ℕ)) → All (IsFrontOf got) fronts → All (IsFrontOf more) fronts
   fronts_more fronts all = All-weaker (IsFrontOf got) (IsFrontOf more) front_more fronts all
@@ -101,24 +107,27 @@ module _ (s : TaskSide) (front notes messages : ℕ) (closed : Bool) (next : ℕ
       → IsKept (record s { getter = g; out = out' }) front' notes' messages' closed' next' cells' log'
   kept_more front' notes' messages' next' closed' cells' log' out' learnt count pass close as_many same told once logged =
       subst (λ n. IsKept (record s { getter = g; out = out' }) front' notes' messages' closed' n cells' log') (sym as_many) (record {
-      seen = omega (arith, clamps, learnt, kept.seen, seen_snoc s.getter.got note, ap seen_by e);
-      notes_counted = count;
-      messages_counted = pass;
-      is_closed = close;
-      numbered = kept.numbered;
-      marked = kept.marked;
-      below = kept.below;
-      behind = fronts_more s.getter.got g.got note e s.fronts kept.behind;
-      held = λ x. kept.held x ∙ ap (λ l. times x (numbers_in l)) (sym same);
-      told = told;
-      once = once;
-      logged = logged;
-    })
+        seen = omega (arith, clamps, learnt, kept.seen, seen_snoc s.getter.got note, ap seen_by e);
+        notes_counted = count;
+        messages_counted = pass;
+        is_closed = close;
+        numbered = kept.numbered;
+        marked = kept.marked;
+        below = kept.below;
+        behind = fronts_more s.getter.got g.got note e s.fronts kept.behind;
+        held = λ x. kept.held x ∙ ap (λ l. times x (numbers_in l)) (sym same);
+        told = told;
+        once = once;
+        logged = logged;
+      })
 
   -- a note that completes nothing
   pub once_same : outcomes_in (note ∷ []) ≡ [] → NoneIsStray s.sender.sent g.got → IsOnce next (waiting cells) g.got
-  once_same nothing none x = omega (arith, kept.once (none_before s.getter.got g.got note e s.sender.sent none) x,
-      ap (λ (l : List (ℕ × Outcome)). times x (map (λ (done : ℕ × Outcome). done.0) l)) (outcomes_more s.getter.got g.got note e ∙ ap (λ l. outcomes_in s.getter.got ++ l) nothing ∙ append-nil (outcomes_in s.getter.got)))
+  once_same nothing none x = omega (
+    arith,
+    kept.once (none_before s.getter.got g.got note e s.sender.sent none) x,
+    ap (λ (l : List (ℕ × Outcome)). times x (map (λ (done : ℕ × Outcome). done.0) l)) (outcomes_more s.getter.got g.got note e ∙ ap (λ l. outcomes_in s.getter.got ++ l) nothing ∙ append-nil (outcomes_in s.getter.got)),
+  )
 
   pub logged_same : outcomes_in (note ∷ []) ≡ [] → NoneIsStray s.sender.sent g.got → log ≡ outcomes_in g.got
   logged_same nothing none = kept.logged (none_before s.getter.got g.got note e s.sender.sent none)
@@ -127,20 +136,24 @@ module _ (s : TaskSide) (front notes messages : ℕ) (closed : Bool) (next : ℕ
   -- a note that completes a command
   module _ (seq : ℕ) (outcome : Outcome) (completes : outcomes_in (note ∷ []) ≡ (seq, outcome) ∷ []) where
     completed : (x : ℕ) → times x (completed_in g.got) ≡ times x (completed_in s.getter.got) + one x seq
-    completed x = omega (arith, ap (times x) (completed_more s.getter.got g.got note e),
-        times_both x (completed_in s.getter.got) (completed_in (note ∷ [])), ap (λ (l : List (ℕ × Outcome)). times x (map (λ (done : ℕ × Outcome). done.0) l)) completes)
+    completed x = omega (
+      arith,
+      ap (times x) (completed_more s.getter.got g.got note e),
+      times_both x (completed_in s.getter.got) (completed_in (note ∷ [])),
+      ap (λ (l : List (ℕ × Outcome)). times x (map (λ (done : ℕ × Outcome). done.0) l)) completes,
+    )
 
     stray_here : (0 < times seq (completed_in s.getter.got)) ⊎ All (IsOtherOrBehind seq (number_in (front_in note))) s.sender.sent → IsStray s.sender.sent g.got
     stray_here how = record {
-        before = s.getter.got;
-        note = note;
-        after = [];
-        seq = seq;
-        outcome = outcome;
-        stands = e;
-        completes = completes;
-        again_or_early = how;
-      }
+      before = s.getter.got;
+      note = note;
+      after = [];
+      seq = seq;
+      outcome = outcome;
+      stands = e;
+      completes = completes;
+      again_or_early = how;
+    }
 
     -- one that isn't waited for is stray
     unknown : times seq (waiting cells) ≡ 0 → NoneIsStray s.sender.sent g.got → ⊥
@@ -156,8 +169,15 @@ module _ (s : TaskSide) (front notes messages : ℕ) (closed : Bool) (next : ℕ
         ends
       where
         here : Has (outcomes_in g.got) (seq, outcome)
-        here = (outcomes_in s.getter.got ++ [], record { before = outcomes_in s.getter.got; after = [];
-            stood = outcomes_more s.getter.got g.got note e ∙ ap (λ l. outcomes_in s.getter.got ++ l) completes; others = refl })
+        here = (
+          outcomes_in s.getter.got ++ [],
+          record {
+            before = outcomes_in s.getter.got;
+            after = [];
+            stood = outcomes_more s.getter.got g.got note e ∙ ap (λ l. outcomes_in s.getter.got ++ l) completes;
+            others = refl;
+          },
+        )
 
     pub once_done : (cells' : List Command) (log' : List (ℕ × Outcome)) → Ends seq outcome cells cells' log log' → NoneIsStray s.sender.sent g.got → IsOnce next (waiting cells') g.got
     once_done cells' log' ends none x = ⊎_elim
@@ -168,7 +188,7 @@ module _ (s : TaskSide) (front notes messages : ℕ) (closed : Bool) (next : ℕ
     pub logged_done : (cells' : List Command) (log' : List (ℕ × Outcome)) → Ends seq outcome cells cells' log log' → NoneIsStray s.sender.sent g.got → log' ≡ outcomes_in g.got
     logged_done cells' log' ends none = ⊎_elim
         (λ is. is.1 ∙ (λ i. kept.logged (none_before s.getter.got g.got note e s.sender.sent none) i ++ (seq, outcome) ∷ [])
-            ∙ sym (outcomes_more s.getter.got g.got note e ∙ ap (λ l. outcomes_in s.getter.got ++ l) completes))
+        ∙ sym (outcomes_more s.getter.got g.got note e ∙ ap (λ l. outcomes_in s.getter.got ++ l) completes))
         (λ is. absurd (unknown is.0 none))
         ends
 
@@ -179,16 +199,16 @@ module _ (s : TaskSide) (front notes messages : ℕ) (closed : Bool) (next : ℕ
 pub kept_same : (s : TaskSide) (front notes messages : ℕ) (closed : Bool) (next : ℕ) (cells : List Command) (log : List (ℕ × Outcome))
     → IsKept s front notes messages closed next cells log → (g : Getting) → g.got ≡ s.getter.got → IsKept (record s { getter = g }) front notes messages closed next cells log
 kept_same s front notes messages closed next cells log kept g e = record {
-      seen = kept.seen ∙ ap seen_by (sym e);
-      notes_counted = kept.notes_counted ∙ ap (λ l. counted l) (sym e);
-      messages_counted = kept.messages_counted ∙ ap (λ l. counted (messages_in l)) (sym e);
-      is_closed = kept.is_closed ∙ ap has_closed (sym e);
-      numbered = kept.numbered;
-      marked = kept.marked;
-      below = kept.below;
-      behind = subst (λ l. All (IsFrontOf l) s.fronts) (sym e) kept.behind;
-      held = kept.held;
-      told = subst (λ l. All (WasTold l) cells) (sym e) kept.told;
-      once = subst (λ l. NoneIsStray s.sender.sent l → IsOnce next (waiting cells) l) (sym e) kept.once;
-      logged = subst (λ l. NoneIsStray s.sender.sent l → log ≡ outcomes_in l) (sym e) kept.logged;
-    }
+  seen = kept.seen ∙ ap seen_by (sym e);
+  notes_counted = kept.notes_counted ∙ ap (λ l. counted l) (sym e);
+  messages_counted = kept.messages_counted ∙ ap (λ l. counted (messages_in l)) (sym e);
+  is_closed = kept.is_closed ∙ ap has_closed (sym e);
+  numbered = kept.numbered;
+  marked = kept.marked;
+  below = kept.below;
+  behind = subst (λ l. All (IsFrontOf l) s.fronts) (sym e) kept.behind;
+  held = kept.held;
+  told = subst (λ l. All (WasTold l) cells) (sym e) kept.told;
+  once = subst (λ l. NoneIsStray s.sender.sent l → IsOnce next (waiting cells) l) (sym e) kept.once;
+  logged = subst (λ l. NoneIsStray s.sender.sent l → log ≡ outcomes_in l) (sym e) kept.logged;
+}

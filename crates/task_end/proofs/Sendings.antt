@@ -46,20 +46,19 @@ seen_take (suc count) (n ∷ got) = omega (arith, clamps, seen_take count got)
 stray_sent : (sent : List Submission) (x : Submission) (got : List Note) → (is_leave (request_of x) ≡ false → seen_by got ≤ number_in (front_of x))
     → IsStray sent got → IsStray (sent ++ x ∷ []) got
 stray_sent sent x got seen st = record {
-      before = st.before;
-      note = st.note;
-      after = st.after;
-      seq = st.seq;
-      outcome = st.outcome;
-      stands = st.stands;
-      completes = st.completes;
-      again_or_early = ⊎_elim inl (λ early. inr (All-push (IsOtherOrBehind st.seq (number_in (front_in st.note))) sent x early
-          (λ same not. omega (arith, seen not, seen_within st.before st.note st.after, ap seen_by st.stands)))) st.again_or_early;
-    }
+  before = st.before;
+  note = st.note;
+  after = st.after;
+  seq = st.seq;
+  outcome = st.outcome;
+  stands = st.stands;
+  completes = st.completes;
+  again_or_early = ⊎_elim inl (λ early. inr (All-push (IsOtherOrBehind st.seq (number_in (front_in st.note))) sent x early
+      (λ same not. omega (arith, seen not, seen_within st.before st.note st.after, ap seen_by st.stands)))) st.again_or_early;
+}
 
 module _ (s : TaskSide) (front notes messages : ℕ) (closed : Bool) (next : ℕ) (cells : List Command) (log : List (ℕ × Outcome))
     (kept : IsKept s front notes messages closed next cells log) where
-
   pub seen_again : (front' : ℕ) → front' ≡ front → IsKept s front' notes messages closed next cells log
   seen_again front' e = subst (λ f. IsKept s f notes messages closed next cells log) (sym e) kept
 
@@ -76,32 +75,43 @@ module _ (s : TaskSide) (front notes messages : ℕ) (closed : Bool) (next : ℕ
 
     is_front : IsFrontOf s.getter.got (next, front, notes)
     is_front = record {
-        within = omega (arith, clamps, kept.notes_counted);
-        seen = omega (arith, kept.seen, seen_take notes s.getter.got);
-      }
+      within = omega (arith, clamps, kept.notes_counted);
+      seen = omega (arith, kept.seen, seen_take notes s.getter.got);
+    }
 
     one_more : IsKept (record s { permits = p; sender = sender; out = tickets_of (cells ++ command next id None ∷ []); fronts = s.fronts ++ (next, front, notes) ∷ [] })
         front notes messages closed (next + 1) (cells ++ command next id None ∷ []) log
     one_more = record {
-        seen = kept.seen;
-        notes_counted = kept.notes_counted;
-        messages_counted = kept.messages_counted;
-        is_closed = kept.is_closed;
-        numbered = omega (arith, kept.numbered, length-append s.fronts ((next, front, notes) ∷ []));
-        marked = map-append front_part s.fronts ((next, front, notes) ∷ [])
-            ∙ (λ i. kept.marked i ++ (next, front) ∷ [])
-            ∙ sym (ap fronts_noted sent ∙ flat_map-append front_noted s.sender.sent (x ∷ []) ∙ ap (λ l. fronts_noted s.sender.sent ++ (l ++ [])) noted_one);
-        below = subst (All (IsBelow (next + 1))) (sym sent) (All-push (IsBelow (next + 1)) s.sender.sent x
-            (All-weaker (IsBelow next) (IsBelow (next + 1)) (λ y is not. omega (arith, is not)) s.sender.sent kept.below) (λ not. omega (arith, seq)));
-        behind = All-push (IsFrontOf s.getter.got) s.fronts (next, front, notes) kept.behind is_front;
-        held = λ n. omega (arith, kept.held n, ap (times n) held, ap (λ l. times n (numbers_in l)) out,
-            ap (λ l. times n (numbers_in l)) (map-append ticket_of cells (command next id None ∷ [])),
-            ap (times n) (map-append (λ (t : ℕ × ℕ). t.1) (tickets_of cells) ((next, id) ∷ [])), times_both n (numbers_in (tickets_of cells)) (id ∷ []));
-        told = All-push (WasTold s.getter.got) cells (command next id None) kept.told tt;
-        once = λ none n. omega (arith, kept.once (none_before none) n, once_more next n,
-            ap (times n) (flat_map-append waits cells (command next id None ∷ [])), times_both n (waiting cells) (next ∷ []));
-        logged = λ none. kept.logged (none_before none);
-      }
+      seen = kept.seen;
+      notes_counted = kept.notes_counted;
+      messages_counted = kept.messages_counted;
+      is_closed = kept.is_closed;
+      numbered = omega (arith, kept.numbered, length-append s.fronts ((next, front, notes) ∷ []));
+      marked = map-append front_part s.fronts ((next, front, notes) ∷ [])
+          ∙ (λ i. kept.marked i ++ (next, front) ∷ [])
+          ∙ sym (ap fronts_noted sent ∙ flat_map-append front_noted s.sender.sent (x ∷ []) ∙ ap (λ l. fronts_noted s.sender.sent ++ (l ++ [])) noted_one);
+      below = subst (All (IsBelow (next + 1))) (sym sent) (All-push (IsBelow (next + 1)) s.sender.sent x
+          (All-weaker (IsBelow next) (IsBelow (next + 1)) (λ y is not. omega (arith, is not)) s.sender.sent kept.below) (λ not. omega (arith, seq)));
+      behind = All-push (IsFrontOf s.getter.got) s.fronts (next, front, notes) kept.behind is_front;
+      held = λ n. omega (
+        arith,
+        kept.held n,
+        ap (times n) held,
+        ap (λ l. times n (numbers_in l)) out,
+        ap (λ l. times n (numbers_in l)) (map-append ticket_of cells (command next id None ∷ [])),
+        ap (times n) (map-append (λ (t : ℕ × ℕ). t.1) (tickets_of cells) ((next, id) ∷ [])),
+        times_both n (numbers_in (tickets_of cells)) (id ∷ []),
+      );
+      told = All-push (WasTold s.getter.got) cells (command next id None) kept.told tt;
+      once = λ none n. omega (
+        arith,
+        kept.once (none_before none) n,
+        once_more next n,
+        ap (times n) (flat_map-append waits cells (command next id None ∷ [])),
+        times_both n (waiting cells) (next ∷ []),
+      );
+      logged = λ none. kept.logged (none_before none);
+    }
 
     pub begun : (cells' : List Command) (fronts' : List (ℕ × ℕ × ℕ)) (next' : ℕ) (log' : List (ℕ × Outcome))
         → cells' ≡ cells ++ command next id None ∷ [] → fronts' ≡ s.fronts ++ (next, front, notes) ∷ [] → next' ≡ next + 1 → log' ≡ log
@@ -110,7 +120,7 @@ module _ (s : TaskSide) (front notes messages : ℕ) (closed : Bool) (next : ℕ
         subst (λ cs. IsKept (record s { permits = p; sender = sender; out = tickets_of cs; fronts = fronts' }) front notes messages closed next' cs log') (sym c)
         (subst (λ fs. IsKept (record s { permits = p; sender = sender; out = tickets_of (cells ++ command next id None ∷ []); fronts = fs }) front notes messages closed next' (cells ++ command next id None ∷ []) log') (sym f)
         (subst (λ (m : ℕ × List (ℕ × Outcome)). IsKept (record s { permits = p; sender = sender; out = tickets_of (cells ++ command next id None ∷ []); fronts = s.fronts ++ (next, front, notes) ∷ [] }) front notes messages closed m.0 (cells ++ command next id None ∷ []) m.1)
-            (λ i. (sym n i, sym l i)) one_more))
+        (λ i. (sym n i, sym l i)) one_more))
 
   -- ---- Nothing was submitted
 
@@ -118,40 +128,40 @@ module _ (s : TaskSide) (front notes messages : ℕ) (closed : Bool) (next : ℕ
       → p.held ≡ s.permits.held → sender.sent ≡ s.sender.sent → s.out ≡ tickets_of cells → cells' ≡ cells → fronts' ≡ s.fronts → next' ≡ next → log' ≡ log
       → IsKept (record s { permits = p; sender = sender; out = tickets_of cells'; fronts = fronts' }) front notes messages closed next' cells' log'
   still p sender cells' fronts' next' log' held sent out c f n l = record {
-      seen = kept.seen;
-      notes_counted = kept.notes_counted;
-      messages_counted = kept.messages_counted;
-      is_closed = kept.is_closed;
-      numbered = ap length f ∙ kept.numbered ∙ sym n;
-      marked = ap (map front_part) f ∙ kept.marked ∙ ap fronts_noted (sym sent);
-      below = subst (λ m. All (IsBelow m) sender.sent) (sym n) (subst (All (IsBelow next)) (sym sent) kept.below);
-      behind = subst (All (IsFrontOf s.getter.got)) (sym f) kept.behind;
-      held = λ x. ap (times x) held ∙ kept.held x ∙ ap (λ o. times x (numbers_in o)) (out ∙ ap tickets_of (sym c));
-      told = subst (All (WasTold s.getter.got)) (sym c) kept.told;
-      once = λ none x. ap (λ cs. times x (waiting cs) + times x (completed_in s.getter.got)) c
-          ∙ kept.once (subst (λ l. NoneIsStray l s.getter.got) sent none) x ∙ ap (λ m. once_below m x) (sym n);
-      logged = λ none. l ∙ kept.logged (subst (λ l. NoneIsStray l s.getter.got) sent none);
-    }
+    seen = kept.seen;
+    notes_counted = kept.notes_counted;
+    messages_counted = kept.messages_counted;
+    is_closed = kept.is_closed;
+    numbered = ap length f ∙ kept.numbered ∙ sym n;
+    marked = ap (map front_part) f ∙ kept.marked ∙ ap fronts_noted (sym sent);
+    below = subst (λ m. All (IsBelow m) sender.sent) (sym n) (subst (All (IsBelow next)) (sym sent) kept.below);
+    behind = subst (All (IsFrontOf s.getter.got)) (sym f) kept.behind;
+    held = λ x. ap (times x) held ∙ kept.held x ∙ ap (λ o. times x (numbers_in o)) (out ∙ ap tickets_of (sym c));
+    told = subst (All (WasTold s.getter.got)) (sym c) kept.told;
+    once = λ none x. ap (λ cs. times x (waiting cs) + times x (completed_in s.getter.got)) c
+        ∙ kept.once (subst (λ l. NoneIsStray l s.getter.got) sent none) x ∙ ap (λ m. once_below m x) (sym n);
+    logged = λ none. l ∙ kept.logged (subst (λ l. NoneIsStray l s.getter.got) sent none);
+  }
 
   -- ---- A Leave
 
   pub has_left_it : (sender : Sending) (x : Submission) → sender.sent ≡ s.sender.sent ++ x ∷ [] → is_leave (request_of x) ≡ true
       → IsKept (record s { sender = sender }) front notes messages closed next cells log
   has_left_it sender x sent leave = record {
-      seen = kept.seen;
-      notes_counted = kept.notes_counted;
-      messages_counted = kept.messages_counted;
-      is_closed = kept.is_closed;
-      numbered = kept.numbered;
-      marked = kept.marked ∙ sym (ap fronts_noted sent ∙ flat_map-append front_noted s.sender.sent (x ∷ [])
-          ∙ ap (λ b. fronts_noted s.sender.sent ++ (noted (seq_of x) (number_in (front_of x)) b ++ [])) leave ∙ append-nil (fronts_noted s.sender.sent));
-      below = subst (All (IsBelow next)) (sym sent) (All-push (IsBelow next) s.sender.sent x kept.below (λ not. absurd (true≢false (sym leave ∙ not))));
-      behind = kept.behind;
-      held = kept.held;
-      told = kept.told;
-      once = λ none. kept.once (none_before none);
-      logged = λ none. kept.logged (none_before none);
-    }
+    seen = kept.seen;
+    notes_counted = kept.notes_counted;
+    messages_counted = kept.messages_counted;
+    is_closed = kept.is_closed;
+    numbered = kept.numbered;
+    marked = kept.marked ∙ sym (ap fronts_noted sent ∙ flat_map-append front_noted s.sender.sent (x ∷ [])
+        ∙ ap (λ b. fronts_noted s.sender.sent ++ (noted (seq_of x) (number_in (front_of x)) b ++ [])) leave ∙ append-nil (fronts_noted s.sender.sent));
+    below = subst (All (IsBelow next)) (sym sent) (All-push (IsBelow next) s.sender.sent x kept.below (λ not. absurd (true≢false (sym leave ∙ not))));
+    behind = kept.behind;
+    held = kept.held;
+    told = kept.told;
+    once = λ none. kept.once (none_before none);
+    logged = λ none. kept.logged (none_before none);
+  }
     where
       none_before : NoneIsStray sender.sent s.getter.got → NoneIsStray s.sender.sent s.getter.got
       none_before none st = none (subst (λ l. IsStray l s.getter.got) (sym sent)
@@ -161,8 +171,12 @@ module _ (s : TaskSide) (front notes messages : ℕ) (closed : Bool) (next : ℕ
 
   module _ (seq number : ℕ) (outcome : Outcome) (cells' : List Command) (t : IsTakenFrom (command seq number (Some outcome)) cells cells') (out : s.out ≡ tickets_of cells) where
     counts : (x : ℕ) → times x (numbers_in (tickets_of cells')) + one x number ≡ times x s.permits.held
-    counts x = omega (arith, times_taken (seq, number) (tickets_of cells) (tickets_of cells') (takes_ticket seq number outcome cells cells' t) x,
-        kept.held x, ap (λ l. times x (numbers_in l)) out)
+    counts x = omega (
+      arith,
+      times_taken (seq, number) (tickets_of cells) (tickets_of cells') (takes_ticket seq number outcome cells cells' t) x,
+      kept.held x,
+      ap (λ l. times x (numbers_in l)) out,
+    )
 
     pub is_held : 0 < times number s.permits.held
     is_held = omega (arith, counts number, one_same number number refl)
@@ -173,23 +187,23 @@ module _ (s : TaskSide) (front notes messages : ℕ) (closed : Bool) (next : ℕ
     pub handed_out : (p : Pass) (next' : ℕ) (log' : List (ℕ × Outcome)) → p.held ≡ without number s.permits.held → next' ≡ next → log' ≡ log
         → IsKept (record s { permits = p; out = tickets_of cells' }) front notes messages closed next' cells' log'
     handed_out p next' log' held n l =
-      subst (λ (m : ℕ × List (ℕ × Outcome)). IsKept (record s { permits = p; out = tickets_of cells' }) front notes messages closed m.0 cells' m.1) (λ i. (sym n i, sym l i)) (record {
-        seen = kept.seen;
-        notes_counted = kept.notes_counted;
-        messages_counted = kept.messages_counted;
-        is_closed = kept.is_closed;
-        numbered = kept.numbered;
-        marked = kept.marked;
-        below = kept.below;
-        behind = kept.behind;
-        held = λ x. ⊎_elim
-            (λ e. omega (arith, ap (times x) held, ap (λ n. times x (without n s.permits.held)) (sym e), times-without_same x s.permits.held (omega (arith, counts x, one_same x number e)), counts x, one_same x number e))
-            (λ apart. omega (arith, ap (times x) held, times-without_other number x s.permits.held apart, counts x, one_other x number apart))
-            (cases_eq x number);
-        told = (takes_all seq number outcome cells cells' t (WasTold s.getter.got) kept.told).0;
-        once = λ none x. ap (λ l. times x l + times x (completed_in s.getter.got)) (takes_waiting seq number outcome cells cells' t) ∙ kept.once none x;
-        logged = kept.logged;
-      })
+        subst (λ (m : ℕ × List (ℕ × Outcome)). IsKept (record s { permits = p; out = tickets_of cells' }) front notes messages closed m.0 cells' m.1) (λ i. (sym n i, sym l i)) (record {
+          seen = kept.seen;
+          notes_counted = kept.notes_counted;
+          messages_counted = kept.messages_counted;
+          is_closed = kept.is_closed;
+          numbered = kept.numbered;
+          marked = kept.marked;
+          below = kept.below;
+          behind = kept.behind;
+          held = λ x. ⊎_elim
+              (λ e. omega (arith, ap (times x) held, ap (λ n. times x (without n s.permits.held)) (sym e), times-without_same x s.permits.held (omega (arith, counts x, one_same x number e)), counts x, one_same x number e))
+              (λ apart. omega (arith, ap (times x) held, times-without_other number x s.permits.held apart, counts x, one_other x number apart))
+              (cases_eq x number);
+          told = (takes_all seq number outcome cells cells' t (WasTold s.getter.got) kept.told).0;
+          once = λ none x. ap (λ l. times x l + times x (completed_in s.getter.got)) (takes_waiting seq number outcome cells cells' t) ∙ kept.once none x;
+          logged = kept.logged;
+        })
 
   -- a ticket that is out, whose outcome isn't kept: none was told
   pub none_told : (seq number : ℕ) → Has (tickets_of cells) (seq, number) → list_any (is_kept seq number) cells ≡ false
@@ -207,7 +221,7 @@ module _ {E : Type 0} (s : TaskSide) (sender : Sending) (x : Submission) (fulls 
       has_left_it s front notes messages closed next cells log kept sender x (ap (λ (p : Sending). p.sent) sent) leave
   leave_tried (Err e) front notes messages closed next cells log kept leave sent full out =
       subst (λ o. IsKept (record s { sender = sender; out = o }) front notes messages closed next cells log) (sym out)
-          (still s front notes messages closed next cells log kept s.permits sender cells s.fronts next log refl (ap (λ (p : Sending). p.sent) full) out refl refl refl refl)
+      (still s front notes messages closed next cells log kept s.permits sender cells s.fronts next log refl (ap (λ (p : Sending). p.sent) full) out refl refl refl refl)
 
 pub same_queue : {E : Type 0} (old new : Sending) (x : Submission) (fulls : ℕ) (r : Result (Unit {0}) E)
     → OnOk r (new ≡ record old { sent = old.sent ++ x ∷ [] }) → IfErr r (λ _. new ≡ record old { fulls = fulls })

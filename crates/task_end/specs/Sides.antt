@@ -66,11 +66,11 @@ pub record IsSameSent (old new : TaskSide) : Type 0 where
 -- the submission of a request behind these, with a mark of what its task had seen
 abbrev pub submitted : TableId → TaskSide → Request → Submission
 submitted board s request = record {
-    task = s.sender.number;
-    seq = length s.sender.sent;
-    request = request;
-    front = Some (record { board = board; number = seen_by s.getter.got });
-  }
+  task = s.sender.number;
+  seq = length s.sender.sent;
+  request = request;
+  front = Some (record { board = board; number = seen_by s.getter.got });
+}
 
 -- the Leave behind these, which has no mark
 abbrev pub leave_of : TaskSide → Submission
@@ -86,9 +86,9 @@ found_full s = record s { sender = record s.sender { fulls = s.sender.fulls + 1 
 -- empty
 abbrev pub trying : List Note → ℕ → ℕ → TaskSide → TaskSide
 trying more looks fulls s = record s {
-    sender = record s.sender { fulls = s.sender.fulls + fulls };
-    getter = record s.getter { got = s.getter.got ++ more; empties = s.getter.empties + looks };
-  }
+  sender = record s.sender { fulls = s.sender.fulls + fulls };
+  getter = record s.getter { got = s.getter.got ++ more; empties = s.getter.empties + looks };
+}
 
 -- These notes were got, and of looks that found the mailbox empty there are this many more.
 abbrev pub IsBehind : List Note → ℕ → TaskSide → TaskSide → Type 0

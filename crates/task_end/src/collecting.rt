@@ -16,9 +16,12 @@ use crate::ticket::Ticket;
 use front_board::Named;
 use std::sync::Wait;
 
-impl<J: Named, const POOL: usize, const QUEUE: usize, const INBOX: usize>
-    TaskEnd<J, POOL, QUEUE, INBOX>
-{
+impl<J: Named, const POOL: usize, const QUEUE: usize, const INBOX: usize> TaskEnd<
+    J,
+    POOL,
+    QUEUE,
+    INBOX,
+> {
     /// The outcome of a ticket's command. Notes are taken in until it is there, there is no more, or as many messages are kept
     /// as there is room for. It takes no memory.
     pub fn collect<R: Wait>(&mut self, rt: &R, ticket: Ticket) -> Collected

@@ -20,9 +20,12 @@ use front_board::Named;
 use std::sync::Wait;
 use task_queues::{GetPass, PutPass, SendPass};
 
-impl<J: Named, const POOL: usize, const QUEUE: usize, const INBOX: usize>
-    LeftEnd<J, POOL, QUEUE, INBOX>
-{
+impl<J: Named, const POOL: usize, const QUEUE: usize, const INBOX: usize> LeftEnd<
+    J,
+    POOL,
+    QUEUE,
+    INBOX,
+> {
     /// The outcome of a ticket's command. Notes are taken in until it is there, or there is no more; messages among them are
     /// counted and given up, so the answer is never `MessagesFirst`. It takes no memory.
     pub fn collect<R: Wait>(&mut self, rt: &R, ticket: Ticket) -> Collected

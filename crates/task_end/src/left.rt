@@ -11,8 +11,7 @@ pub struct LeftEnd<J: Named, const POOL: usize, const QUEUE: usize, const INBOX:
 }
 
 impl<J: Named, const POOL: usize, const QUEUE: usize, const INBOX: usize> Model
-    for LeftEnd<J, POOL, QUEUE, INBOX>
-{
+    for LeftEnd<J, POOL, QUEUE, INBOX> {
     ghost use Rattle.std.specs.Prelude.{◌≡◌, true};
     ghost use Rattle.task_queues.specs.Submissions.{has_leave};
     ghost use Rattle.task_end.specs.Sides.{TaskSide};

@@ -31,8 +31,7 @@ pub struct Side<J: Named, const POOL: usize, const QUEUE: usize, const INBOX: us
 }
 
 impl<J: Named, const POOL: usize, const QUEUE: usize, const INBOX: usize> Model
-    for Side<J, POOL, QUEUE, INBOX>
-{
+    for Side<J, POOL, QUEUE, INBOX> {
     ghost use Rattle.std.specs.Prelude.{◌≡◌};
     ghost use Rattle.std.specs.Arc.{arc_value};
     ghost use Rattle.task_end.specs.Commands.{tickets_of};
@@ -45,5 +44,5 @@ impl<J: Named, const POOL: usize, const QUEUE: usize, const INBOX: usize> Model
 
     ghost invariant = { λ s. (s.permits.pool ≡ arc_value s.pool) × (s.sender.queue ≡ arc_value s.queue) × (s.getter.mailbox ≡ arc_value s.mailbox) × (s.sender.number ≡ s.task)
         × IsKept (record { permits = s.permits; sender = s.sender; getter = s.getter; out = tickets_of s.commands.out.items; fronts = s.fronts.items })
-            s.sight s.notes s.messages s.closed s.commands.next s.commands.out.items (outcomes_of s.commands.log.items) };
+        s.sight s.notes s.messages s.closed s.commands.next s.commands.out.items (outcomes_of s.commands.log.items) };
 }

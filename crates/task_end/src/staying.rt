@@ -31,9 +31,12 @@ use std::sync::Wait;
 use std::thread;
 use task_queues::{PutPass, RecvPass};
 
-impl<J: Named, const POOL: usize, const QUEUE: usize, const INBOX: usize>
-    TaskEnd<J, POOL, QUEUE, INBOX>
-{
+impl<J: Named, const POOL: usize, const QUEUE: usize, const INBOX: usize> TaskEnd<
+    J,
+    POOL,
+    QUEUE,
+    INBOX,
+> {
     /// A task's end of fresh passes, with room for the messages that it keeps. `Err` where memory runs out.
     pub fn new(alloc: Global, parts: Parts<J, POOL, QUEUE, INBOX>) -> Result<Self, AllocError>
         requires size { 0 < INBOX }
@@ -117,12 +120,7 @@ impl<J: Named, const POOL: usize, const QUEUE: usize, const INBOX: usize>
 
     /// Whether a look at the queue and one at the mailbox found them empty: then the agent's ends know all that was sent, and the
     /// task got all that was put. Nothing changes.
-    pub fn agrees<R: Wait>(
-        &mut self,
-        rt: &R,
-        receiver: &mut RecvPass,
-        putter: &mut PutPass,
-    ) -> bool
+    pub fn agrees<R: Wait>(&mut self, rt: &R, receiver: &mut RecvPass, putter: &mut PutPass) -> bool
         requires queue { receiver.old.queue ≡ self.old.side.sender.queue }
         requires mailbox { putter.old.mailbox ≡ self.old.side.getter.mailbox }
         ensures same { (self.new ≡ self.old) × (receiver.new ≡ receiver.old) × (putter.new ≡ putter.old) }

@@ -29,9 +29,12 @@ use task_queues::Submission;
 /// How many requests a task may submit, its Leave not among them.
 const MOST: u32 = 4_000_000_000;
 
-impl<J: Named, const POOL: usize, const QUEUE: usize, const INBOX: usize>
-    Side<J, POOL, QUEUE, INBOX>
-{
+impl<J: Named, const POOL: usize, const QUEUE: usize, const INBOX: usize> Side<
+    J,
+    POOL,
+    QUEUE,
+    INBOX,
+> {
     /// Submits a request of a task that hasn't left, with a mark of what it has seen.
     pub fn submit<R: Wait>(
         &mut self,
@@ -119,10 +122,7 @@ fn into_request(submission: Submission) -> Request
 }
 
 /// Makes room for what one command more brings.
-fn make_room(
-    commands: &mut Commands,
-    fronts: &mut Vec<(u32, u64, u64)>,
-) -> Result<(), AllocError>
+fn make_room(commands: &mut Commands, fronts: &mut Vec<(u32, u64, u64)>) -> Result<(), AllocError>
     requires few { commands.old.next < 4000000000 }
     ensures next { commands.new.next ≡ commands.old.next }
     ensures out { commands.new.out.items ≡ commands.old.out.items }

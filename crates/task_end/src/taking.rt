@@ -17,9 +17,12 @@ use front_board::Named;
 use std::sync::Wait;
 use task_queues::Note;
 
-impl<J: Named, const POOL: usize, const QUEUE: usize, const INBOX: usize>
-    Side<J, POOL, QUEUE, INBOX>
-{
+impl<J: Named, const POOL: usize, const QUEUE: usize, const INBOX: usize> Side<
+    J,
+    POOL,
+    QUEUE,
+    INBOX,
+> {
     /// Takes in the oldest note that the mailbox holds: its mark is learnt, and an outcome is kept for its ticket. `None` only
     /// where the mailbox was empty at a step of this call.
     pub fn take_in<R: Wait>(&mut self, rt: &R) -> Option<Told>

@@ -19,8 +19,7 @@ pub struct TaskEnd<J: Named, const POOL: usize, const QUEUE: usize, const INBOX:
 }
 
 impl<J: Named, const POOL: usize, const QUEUE: usize, const INBOX: usize> Model
-    for TaskEnd<J, POOL, QUEUE, INBOX>
-{
+    for TaskEnd<J, POOL, QUEUE, INBOX> {
     ghost use Rattle.std.specs.Prelude.{◌≡◌, ◌<◌, false, length};
     ghost use Rattle.task_queues.specs.Submissions.{has_leave};
     ghost use Rattle.task_end.specs.Sides.{Tasking};

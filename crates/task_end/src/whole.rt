@@ -22,9 +22,12 @@ use std::marker::PhantomData;
 use std::sync::Wait;
 use task_queues::{GetPass, PutPass, RecvPass, SendPass};
 
-impl<J: Named, const POOL: usize, const QUEUE: usize, const INBOX: usize>
-    Side<J, POOL, QUEUE, INBOX>
-{
+impl<J: Named, const POOL: usize, const QUEUE: usize, const INBOX: usize> Side<
+    J,
+    POOL,
+    QUEUE,
+    INBOX,
+> {
     /// A side of fresh passes.
     pub fn new(alloc: Global, parts: Parts<J, POOL, QUEUE, INBOX>) -> Self
         requires task { parts.sender.number ≡ parts.task }
@@ -69,12 +72,7 @@ impl<J: Named, const POOL: usize, const QUEUE: usize, const INBOX: usize>
     }
 
     /// Whether a look at the queue and one at the mailbox found them empty.
-    pub fn agrees<R: Wait>(
-        &mut self,
-        rt: &R,
-        receiver: &mut RecvPass,
-        putter: &mut PutPass,
-    ) -> bool
+    pub fn agrees<R: Wait>(&mut self, rt: &R, receiver: &mut RecvPass, putter: &mut PutPass) -> bool
         requires queue { receiver.old.queue ≡ self.old.sender.queue }
         requires mailbox { putter.old.mailbox ≡ self.old.getter.mailbox }
         ensures same { (self.new ≡ self.old) × (receiver.new ≡ receiver.old) × (putter.new ≡ putter.old) }

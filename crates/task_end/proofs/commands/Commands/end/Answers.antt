@@ -13,7 +13,7 @@ pub push_reserved-requires : goal.push_reserved-requires
 push_reserved-requires c =
     let none = command 0 0 None in
     let ends = ended_at c.args.seq c.args.outcome c.args.self.now.out.items c.in-Some.k none (get_or c.args.self.now.out.items c.in-Some.k none)
-        (c.in-Some.ensures ∙ ap (position (is_waiting c.args.seq)) c.as_slice.ensures.value) refl in
+    (c.in-Some.ensures ∙ ap (position (is_waiting c.args.seq)) c.as_slice.ensures.value) refl in
     let count = ends_count c.args.seq c.args.outcome _ _ ends in
     let counted = c.args.self.now.counted in
     let room = c.args.self.now.room in
@@ -22,7 +22,7 @@ push_reserved-requires c =
 pub invariant_of-self : goal.invariant_of-self
 invariant_of-self c =
     let ends = ended_at c.args.seq c.args.outcome c.args.self.now.out.items c.in-Some.k c.index_mut.result.now c.index_mut.result.now
-        (c.in-Some.ensures ∙ ap (position (is_waiting c.args.seq)) c.as_slice.ensures.value) c.index_mut.ensures.value in
+    (c.in-Some.ensures ∙ ap (position (is_waiting c.args.seq)) c.as_slice.ensures.value) c.index_mut.ensures.value in
     let count = ends_count c.args.seq c.args.outcome _ _ ends in
     let log = ap length c.push_reserved.ensures.items in
     let both = length-append c.args.self.now.log.items ((c.args.seq, c.logged.result) ∷ []) in
@@ -33,10 +33,12 @@ invariant_of-self c =
     }
 
 pub returns-in-Some-clause-ends : goal.returns-in-Some-clause-ends
-returns-in-Some-clause-ends c = inl (ended_at c.args.seq c.args.outcome c.args.self.now.out.items c.in-Some.k c.index_mut.result.now c.index_mut.result.now
-        (c.in-Some.ensures ∙ ap (position (is_waiting c.args.seq)) c.as_slice.ensures.value) c.index_mut.ensures.value,
-    ap outcomes_of c.push_reserved.ensures.items ∙ map-append _ c.args.self.now.log.items ((c.args.seq, c.logged.result) ∷ [])
-        ∙ ap (λ o. outcomes_of c.args.self.now.log.items ++ (c.args.seq, o) ∷ []) c.logged.ensures)
+returns-in-Some-clause-ends c = inl (
+  ended_at c.args.seq c.args.outcome c.args.self.now.out.items c.in-Some.k c.index_mut.result.now c.index_mut.result.now
+      (c.in-Some.ensures ∙ ap (position (is_waiting c.args.seq)) c.as_slice.ensures.value) c.index_mut.ensures.value,
+  ap outcomes_of c.push_reserved.ensures.items ∙ map-append _ c.args.self.now.log.items ((c.args.seq, c.logged.result) ∷ [])
+      ∙ ap (λ o. outcomes_of c.args.self.now.log.items ++ (c.args.seq, o) ∷ []) c.logged.ensures,
+)
 
 pub returns-in-None-clause-ends : goal.returns-in-None-clause-ends
 returns-in-None-clause-ends c = inr (none_waits c.args.seq c.args.self.now.out.items (none_passes (is_waiting c.args.seq) c.args.self.now.out.items (search rules)), refl, refl)

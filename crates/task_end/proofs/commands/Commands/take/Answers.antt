@@ -19,8 +19,8 @@ pub returns-in-Some-clause-some : goal.returns-in-Some-clause-some
 returns-in-Some-clause-some c =
     let place = c.in-Some.ensures ∙ ap (position (is_kept c.args.seq c.args.number)) c.as_slice.ensures.value in
     subst (λ rest. IfSome c.remove.result.outcome (λ outcome. IsTakenFrom (command c.args.seq c.args.number (Some outcome)) c.args.self.now.out.items rest))
-        (sym c.remove.ensures.items)
-        (taken_at c.args.seq c.args.number c.args.self.now.out.items c.in-Some.k c.remove.result place c.remove.ensures.value)
+    (sym c.remove.ensures.items)
+    (taken_at c.args.seq c.args.number c.args.self.now.out.items c.in-Some.k c.remove.result place c.remove.ensures.value)
 
 pub returns-in-Some-clause-none : goal.returns-in-Some-clause-none
 returns-in-Some-clause-none c = never_none c.args.seq c.args.number c.args.self.now.out.items c.in-Some.k c.remove.result (c.in-Some.ensures ∙ ap (position (is_kept c.args.seq c.args.number)) c.as_slice.ensures.value) c.remove.ensures.value _
