@@ -1,0 +1,5 @@
+mod Lists
+mod Cells
+mod Notings
+mod Sendings
+mod Loops

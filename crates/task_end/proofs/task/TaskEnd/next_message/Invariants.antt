@@ -1,0 +1,7 @@
+use Rattle.std.proofs.Common.{◌≡◌, List}
+use Rattle.task_queues.specs.declared.note.Note.{Note}
+use Rattle.task_end.specs.Sides.{keeping}
+use Rattle.task_end.proofs.task.TaskEnd.next_message.Given as goal
+
+abbrev pub invariant-loop : goal.invariant-loop
+invariant-loop g l = (more : List Note) × (l.self ≡ keeping more l.fn.self)
