@@ -1,5 +1,5 @@
 -- Breaks, of which the link has counted what caused them.
-use Rattle.std.proofs.Common.{◌≡◌, ℕ, ◌≤◌, Bool, true, false, cond, List, ◌∷◌, refl, sym, ap, ◌∙◌, subst, arith}
+use Rattle.std.proofs.Common.{◌≡◌, ℕ, Bool, true, false, cond, List, refl, sym, subst, arith}
 use Rattle.std.specs.Prelude.{Option, Some, None, nat_le}
 use Rattle.std.proofs.lemmas.Bool.{leb-true}
 use Rattle.mqtt_packet.specs.declared.splitter.Next.TheVariants as answers
@@ -13,7 +13,7 @@ use Rattle.agent_table.specs.Rows.{Row}
 use Rattle.agent_table.specs.Ties.{Moment, arrived, listens, is_bad_bytes, Rejects}
 use Rattle.agent_ties.specs.Counting.{HasCounted}
 use Rattle.agent_ties.specs.Heard.{IsGoing}
-use Rattle.agent_ties.specs.Seen.{Seen, entry}
+use Rattle.agent_ties.specs.Seen.{Seen}
 use Rattle.agent_ties.specs.Ties.{Ties, Handing}
 use Rattle.agent_ties.proofs.Counting.{bad_uncounted, later_counted, nothing_counted, plain_counted, fault_counted, end_counted, idle_counted}
 use Rattle.agent_ties.proofs.Handed.{next_bad, next_long}

@@ -1,13 +1,12 @@
 -- An entry that was made, and its packets.
 use Rattle.std.proofs.Common.{◌≡◌, ℕ, ◌<◌, true, List, [], ◌∷◌, length, take, is_some, refl, ap, ◌∙◌, sym, subst, arith, inl, inr}
-use Rattle.std.specs.Prelude.{Some}
 use Rattle.agent_link.specs.Counts.{Rose}
 use Rattle.agent_journal.specs.declared.entry.Cause.{Cause}
 use Rattle.agent_journal.specs.declared.entry.Cause.TheVariants as c
 use Rattle.agent_journal.specs.declared.entry.Why.TheVariants as why
 use Rattle.agent_journal.specs.Wires.{sent_in}
 use Rattle.agent_ties.specs.Counting.{IsLater}
-use Rattle.agent_ties.specs.Seen.{Seen, fresh}
+use Rattle.agent_ties.specs.Seen.{fresh}
 use Rattle.agent_ties.proofs.Seen.{faults_behind}
 use Rattle.agent_line.specs.Recorded.{Recorded, row_in, with_row, Makes, newest_effects}
 use Rattle.agent_line.specs.Told.{Told, more_on, seen_in}

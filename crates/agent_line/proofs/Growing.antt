@@ -1,7 +1,6 @@
 -- A journal with an entry more, and perhaps a break behind it.
 use Rattle.std.proofs.Common.{◌≡◌, ◌⊎◌, ℕ, Bool, true, false, cond, List, [], ◌∷◌, ◌++◌, refl, sym, ap, ◌∙◌, arith, append_assoc, inl, inr}
 use Rattle.std.specs.Prelude.{Contains, Option, Some, None, nat_le}
-use Rattle.std.specs.List.{list_any}
 use Rattle.std.proofs.lemmas.List.Folds.{list_any-append}
 use Rattle.mqtt_packet.specs.declared.packet.Packet.{Packet}
 use Rattle.agent_journal.specs.declared.entry.Cause.{Cause}

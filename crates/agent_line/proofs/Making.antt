@@ -1,5 +1,5 @@
 -- Entries that were made.
-use Rattle.std.proofs.Common.{◌≡◌, ℕ, ◌≤◌, List, [], ◌∷◌, ◌++◌, reverse, true, Option, Some, None, is_some, refl, sym, ap, ◌∙◌, subst}
+use Rattle.std.proofs.Common.{◌≡◌, ℕ, ◌≤◌, List, [], ◌∷◌, ◌++◌, reverse, true, Option, Some, None, is_some, refl, sym, ap, ◌∙◌}
 use Rattle.std.specs.List.{AllByRecursion}
 use Rattle.std.proofs.lemmas.List.{reverse-append}
 use Rattle.agent_journal.specs.declared.entry.Cause.{Cause}
@@ -20,7 +20,7 @@ use Rattle.agent_table.proofs.SoundPasts.{packets_are_sound}
 use Rattle.agent_ties.proofs.Dues.{none_gives_up}
 use Rattle.agent_ties.proofs.Present.{opens_few}
 use Rattle.agent_ties.specs.Seen.{entry, fresh}
-use Rattle.agent_line.specs.Recorded.{Recorded, phase_in, row_in, due_in, with_row, Makes, newest_effects}
+use Rattle.agent_line.specs.Recorded.{Recorded, phase_in, due_in, Makes, newest_effects}
 use Rattle.agent_line.specs.Told.{seen_in}
 
 pub reversed : (entries new : List Entry) (e : Entry) → new ≡ entries ++ e ∷ [] → reverse new ≡ e ∷ reverse entries

@@ -1,6 +1,5 @@
 -- What a receive brings, and what follows it.
-use Rattle.std.proofs.Common.{◌≡◌, ◌⊎◌, ℕ, ◌<◌, ◌≤◌, Bool, true, false, List, [], ◌∷◌, ◌++◌, length, take, is_some, refl, sym, ap, ◌∙◌, subst, arith, inl, inr}
-use Rattle.std.specs.Prelude.{Option, Some, None}
+use Rattle.std.proofs.Common.{◌≡◌, ℕ, ◌<◌, ◌≤◌, true, false, List, [], ◌∷◌, ◌++◌, length, is_some, refl, sym, ap, ◌∙◌, subst, arith, inl, inr}
 use Rattle.mqtt_packet.specs.declared.packet.Packet.{Packet}
 use Rattle.mqtt_packet.specs.declared.splitter.Next.TheVariants as answers
 use Rattle.mqtt_packet.specs.Splitting.{Kept as Stream, StandsFor}
@@ -12,7 +11,7 @@ use Rattle.agent_table.specs.Histories.{readings}
 use Rattle.agent_table.specs.Ties.{Moment, stages, arrived, listens, Heard}
 use Rattle.agent_ties.specs.Counting.{IsLater}
 use Rattle.agent_ties.specs.Heard.{AreHeard, AreHanding, IsGoing, IsHandedIn, LastHeard}
-use Rattle.agent_ties.specs.Seen.{Seen, with_entry}
+use Rattle.agent_ties.specs.Seen.{Seen}
 use Rattle.agent_ties.specs.Ties.{Ties, Handing}
 use Rattle.agent_ties.specs.Wired.{TiedBut, AreWired}
 use Rattle.agent_ties.proofs.Counting.{same_later, later_counted, plain_counted}
@@ -24,7 +23,7 @@ use Rattle.agent_ties.proofs.Sends.{gone_away}
 use Rattle.agent_ties.proofs.Wires.{bytes_on as more_bytes}
 use Rattle.agent_line.specs.Recorded.{Recorded, phase_in, row_in}
 use Rattle.agent_line.specs.Told.{Told, Follows, more_on, seen_in, Since}
-use Rattle.agent_line.specs.Entered.{IsEntered, Arrives}
+use Rattle.agent_line.specs.Entered.{Arrives}
 use Rattle.agent_line.proofs.Following.{follows_more}
 use Rattle.agent_line.proofs.Since.{entered_on, since_map}
 

@@ -1,6 +1,6 @@
 -- What a link did since then, by an entry more and by a call of the link more.
 use Rattle.std.proofs.Common.{◌≡◌, ◌⊎◌, ℕ, zero, suc, ◌<◌, ◌≤◌, List, [], ◌∷◌, ◌++◌, length, take, refl, sym, ap, ◌∙◌, subst, arith, inl, inr}
-use Rattle.std.specs.Prelude.{Some, false}
+use Rattle.std.specs.Prelude.{Some}
 use Rattle.std.specs.Option.{option_map}
 use Rattle.mqtt_packet.specs.Splitting.{Kept as Stream}
 use Rattle.agent_link.specs.Counts.{LinkCounts}
@@ -8,7 +8,7 @@ use Rattle.agent_link.specs.Wires.{onto_last}
 use Rattle.agent_journal.specs.declared.entry.Cause.{Cause}
 use Rattle.agent_journal.specs.declared.entry.Cause.TheVariants as c
 use Rattle.agent_journal.specs.declared.entry.Why.TheVariants as why
-use Rattle.agent_journal.specs.Wires.{is_opened, sent_in}
+use Rattle.agent_journal.specs.Wires.{sent_in}
 use Rattle.agent_table.specs.Rows.{Row}
 use Rattle.agent_ties.specs.Counting.{HasCounted, IsLater, IsUncounted}
 use Rattle.agent_ties.specs.Heard.{IsPlain}

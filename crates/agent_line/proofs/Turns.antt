@@ -1,11 +1,9 @@
 -- What each call leaves of the ties, put together.
-use Rattle.std.proofs.Common.{◌≡◌, ℕ, ◌≤◌, List, [], ◌∷◌, ◌++◌, take, refl, sym, ap, ◌∙◌, subst, arith}
+use Rattle.std.proofs.Common.{◌≡◌, ℕ, ◌≤◌, [], ◌∷◌, ◌++◌, sym, ◌∙◌, subst, arith}
 use Rattle.std.specs.Prelude.{Result, Ok, Err, OnOk}
 use Rattle.std.specs.Option.{option_map}
 use Rattle.std.proofs.lemmas.Int.{clamps}
-use Rattle.mqtt_packet.specs.declared.packet.Packet.{Packet}
-use Rattle.mqtt_packet.specs.Splitting.{Kept as Stream, StandsFor}
-use Rattle.mqtt_packet.specs.Steps.{fed_to}
+use Rattle.mqtt_packet.specs.Splitting.{Kept as Stream}
 use Rattle.agent_link.specs.Counts.{LinkCounts, raised, Rose, RoseBy}
 use Rattle.agent_journal.specs.declared.entry.Cause.{Cause}
 use Rattle.agent_journal.specs.declared.entry.Cause.TheVariants as c
@@ -14,7 +12,7 @@ use Rattle.agent_ties.specs.Counting.{IsLater, IsUncounted}
 use Rattle.agent_ties.specs.Heard.{IsPlain}
 use Rattle.agent_ties.specs.Seen.{fresh}
 use Rattle.agent_ties.specs.Ties.{Ties}
-use Rattle.agent_ties.proofs.Counting.{later_two, no_less, raised_later, rose_then}
+use Rattle.agent_ties.proofs.Counting.{later_two, raised_later, rose_then}
 use Rattle.agent_line.specs.Entered.{IsEntered, one_more, idled}
 use Rattle.agent_line.specs.Recorded.{Recorded, noted}
 use Rattle.agent_line.specs.Told.{Told, Since}

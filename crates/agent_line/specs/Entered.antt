@@ -1,5 +1,5 @@
 -- What an entry whose packets are sent leaves.
-use Rattle.std.specs.Prelude.{◌≡◌, ◌⊎◌, ℕ, ◌+◌, ◌<◌, List, length, take, Some, None, if◌then◌else◌, nat_le, nat_lt}
+use Rattle.std.specs.Prelude.{◌≡◌, ◌⊎◌, ℕ, ◌+◌, ◌<◌, length, take, Some, None, if◌then◌else◌, nat_le, nat_lt}
 use Rattle.mqtt_packet.specs.declared.packet.Packet.{Packet}
 use Rattle.agent_link.specs.Counts.{LinkCounts, Rose, with_fault}
 use Rattle.agent_journal.specs.declared.entry.Cause.{Cause}

@@ -4,7 +4,7 @@ use Rattle.std.specs.Option.{option_map}
 use Rattle.mqtt_packet.specs.Splitting.{Kept as Stream}
 use Rattle.agent_link.specs.Counts.{LinkCounts}
 use Rattle.agent_link.specs.Wires.{onto_last}
-use Rattle.agent_ties.specs.Counting.{HasCounted, IsLater}
+use Rattle.agent_ties.specs.Counting.{HasCounted}
 use Rattle.agent_ties.specs.Seen.{Seen}
 use Rattle.agent_ties.specs.Ties.{Ties}
 use Rattle.agent_line.specs.Recorded.{Recorded}

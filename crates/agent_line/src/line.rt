@@ -14,9 +14,8 @@ use crate::telling::Telling;
 use agent_journal::{Cause, Phase, Why};
 use agent_link::Link;
 use mqtt_packet::{NoMemory, Splitter};
-use std::alloc::Global;
-
 pub use receive::Came;
+use std::alloc::Global;
 
 /// How many bytes a receive has room for.
 const ROOM: usize = 4096;

@@ -1,5 +1,5 @@
 -- What an entry leaves of the ties: all of its packets on the wire, or less and a fault behind it.
-use Rattle.std.proofs.Common.{◌≡◌, ℕ, ◌<◌, ◌≤◌, true, false, List, [], ◌∷◌, ◌++◌, length, take, Some, refl, arith}
+use Rattle.std.proofs.Common.{◌≡◌, ℕ, ◌<◌, true, false, [], ◌∷◌, ◌++◌, length, take, Some, refl, arith}
 use Rattle.mqtt_packet.specs.declared.packet.Packet.{Packet}
 use Rattle.mqtt_packet.specs.declared.splitter.Next.TheVariants as answers
 use Rattle.mqtt_packet.specs.Splitting.{Kept as Stream}
@@ -9,7 +9,6 @@ use Rattle.agent_journal.specs.declared.entry.Cause.{Cause}
 use Rattle.agent_journal.specs.declared.entry.Cause.TheVariants as c
 use Rattle.agent_journal.specs.declared.entry.Why.{Why}
 use Rattle.agent_journal.specs.declared.entry.Why.TheVariants as why
-use Rattle.agent_journal.specs.Readings.{last_time_of}
 use Rattle.agent_journal.specs.Wires.{is_opened, sent_in}
 use Rattle.agent_table.specs.Rows.{Row}
 use Rattle.agent_table.specs.Ties.{is_bad_bytes, listens}

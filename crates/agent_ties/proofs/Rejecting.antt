@@ -1,5 +1,5 @@
 -- The entry of what is no packet, or too long a one.
-use Rattle.std.proofs.Common.{◌≡◌, ℕ, ◌≤◌, true, false, List, Some, None, is_some, refl, sym, ap, ◌∙◌}
+use Rattle.std.proofs.Common.{◌≡◌, ℕ, ◌≤◌, true, false, List, Some, None, is_some, sym, ap, ◌∙◌}
 use Rattle.mqtt_packet.specs.Splitting.{Kept as Stream}
 use Rattle.agent_journal.specs.declared.entry.Cause.TheVariants as c
 use Rattle.agent_journal.specs.declared.entry.Why.{Why}

@@ -1,5 +1,4 @@
 -- Ties at the beginning, and as those of each connection.
-use Rattle.std.proofs.Common.{◌≡◌}
 use Rattle.agent_journal.specs.Wires.{connections, Wired}
 use Rattle.agent_table.specs.Ties.{stages, Heard}
 use Rattle.agent_ties.specs.Heard.{IsHandedIn, LastHeard}

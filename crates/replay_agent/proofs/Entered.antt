@@ -3,7 +3,7 @@ use Rattle.std.proofs.Common.{◌≡◌, ℕ, ◌+◌, ◌*◌, ◌^◌, ◌<◌
 use Rattle.std.specs.Prelude.{◌||◌, ◌==◌, count_by, nat_lt}
 use Rattle.std.proofs.lemmas.Bool.{lt-ltb, le-ltb, eqb-false}
 use Rattle.std.specs.List.{AllByRecursion, list_any}
-use Rattle.std.proofs.lemmas.List.{reverse-append, take_all}
+use Rattle.std.proofs.lemmas.List.{take_all}
 use Rattle.agent_link.specs.Wires.{onto_last}
 use Rattle.broker_tape.specs.Playing.{counts, fitting, room_behind}
 use Rattle.agent_journal.specs.declared.entry.Cause.{Cause}
@@ -19,7 +19,7 @@ use Rattle.agent_journal.specs.Projections.{is_pass}
 use Rattle.agent_journal.specs.Readings.{takes_behind, leaves_by}
 use Rattle.agent_journal.specs.Setups.{is_client}
 use Rattle.agent_journal.specs.Wires.{sent_in}
-use Rattle.agent_table.specs.Histories.{phase_of, row, effects_of}
+use Rattle.agent_table.specs.Histories.{phase_of, effects_of}
 use Rattle.agent_table.proofs.SoundPasts.{packets_are_sound}
 use Rattle.agent_core.specs.Kept.{Kept, row_now}
 use Rattle.agent_core.specs.Stands.{StandsFor}

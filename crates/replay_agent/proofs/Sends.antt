@@ -1,14 +1,8 @@
 -- Bytes are sent as far as there is room.
-use Rattle.std.proofs.Common.{◌≡◌, ℕ, ◌+◌, ◌-◌, ◌<◌, ◌≤◌, List, [], ◌∷◌, ◌++◌, length, take, drop, get_or, Option, Some, None, refl, sym, ap, ◌∙◌, arith, append_assoc, take-add, length-drop}
-use Rattle.std.specs.List.{flat_map}
-use Rattle.std.proofs.lemmas.List.{append-nil, take_more, take_all}
-use Rattle.std.proofs.lemmas.Grind.{flat_map-append}
-use Rattle.mqtt_packet.specs.declared.packet.Packet.{Packet}
-use Rattle.mqtt_packet.specs.Spelling.{spelling}
+use Rattle.std.proofs.Common.{◌≡◌, ℕ, ◌+◌, ◌-◌, ◌≤◌, List, [], ◌∷◌, ◌++◌, length, take, drop, Option, Some, None, refl, sym, ap, ◌∙◌, arith, append_assoc, take-add, length-drop}
+use Rattle.std.proofs.lemmas.List.{append-nil, take_all}
 use Rattle.agent_link.specs.Wires.{onto_last}
 use Rattle.broker_tape.specs.Playing.{fitting, room_behind}
-use Rattle.agent_journal.specs.declared.effect.Effect.{Effect}
-use Rattle.agent_journal.specs.Wires.{sends, sent_in, packet_in}
 
 pub onto_nothing : (ws : List (List ℕ)) → ws ≡ onto_last ws []
 onto_nothing [] = refl

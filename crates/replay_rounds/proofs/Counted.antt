@@ -1,8 +1,7 @@
 -- The link's counts rose by what the journal says.
-use Rattle.std.proofs.Common.{◌≡◌, ℕ, zero, suc, ◌+◌, ◌*◌, ◌≤◌, Bool, true, false, cond, List, [], ◌∷◌, ◌++◌, length, take, Option, Some, None, is_some, refl, sym, ap, ◌∙◌, subst, arith, inl, inr}
+use Rattle.std.proofs.Common.{◌≡◌, ℕ, zero, suc, ◌+◌, Bool, true, false, cond, List, [], ◌∷◌, ◌++◌, length, take, Option, Some, None, is_some, refl, arith}
 use Rattle.std.specs.Prelude.{nat_le}
-use Rattle.std.proofs.lemmas.Bool.{leb-true, leb-false}
-use Rattle.std.proofs.lemmas.Int.{clamps}
+use Rattle.std.proofs.lemmas.Bool.{leb-true}
 use Rattle.mqtt_packet.specs.Steps.{fed_to}
 use Rattle.agent_link.specs.declared.link.Heard.{Heard}
 use Rattle.agent_link.specs.declared.link.Heard.TheVariants as heard
@@ -13,20 +12,14 @@ use Rattle.broker_tape.specs.declared.tape.Item.{Item}
 use Rattle.broker_tape.specs.Playing.{hears, present, opens, room_at}
 use Rattle.agent_journal.specs.declared.entry.Cause.{Cause}
 use Rattle.agent_journal.specs.declared.entry.Cause.TheVariants as c
-use Rattle.agent_journal.specs.declared.entry.Entry.{Entry}
-use Rattle.agent_journal.specs.declared.entry.Why.{Why}
 use Rattle.agent_journal.specs.declared.entry.Why.TheVariants as why
 use Rattle.agent_journal.specs.declared.request.Request.{Request}
-use Rattle.agent_script.specs.declared.script.Line.{Line}
-use Rattle.agent_journal.specs.declared.setup.Phase.{Phase}
 use Rattle.agent_journal.specs.Readings.{takes_of}
-use Rattle.agent_journal.specs.Wires.{is_opened}
 use Rattle.agent_table.specs.Histories.{readings, due_by}
 use Rattle.agent_table.specs.Readings.{at_most}
-use Rattle.agent_table.specs.Rows.{Row}
-use Rattle.agent_table.specs.Ties.{listens, is_bad_bytes, is_fault, is_end, is_idle, is_break_for, breaks_for, IsCounted}
-use Rattle.replay_rounds.specs.World.{World, phase_in, row_in}
-use Rattle.agent_ties.specs.Seen.{entry, fresh}
+use Rattle.agent_table.specs.Ties.{IsCounted}
+use Rattle.replay_rounds.specs.World.{World, row_in}
+use Rattle.agent_ties.specs.Seen.{fresh}
 use Rattle.replay_rounds.specs.Entering.{noted, failed, entered}
 use Rattle.replay_rounds.specs.Lines.{submits}
 use Rattle.replay_rounds.specs.Receiving.{idles, received_by, receives}
@@ -35,10 +28,6 @@ use Rattle.agent_ties.specs.Counting.{HasCounted, IsUncounted}
 use Rattle.agent_ties.proofs.Counting.{no_less, same_later, bad_uncounted, due_uncounted, later_counted, failed_counted, ended_counted, nothing_counted, is_counted, plain_counted, fault_counted, end_counted, idle_counted, opened_counted}
 use Rattle.agent_ties.proofs.Dues.{due_is}
 use Rattle.replay_rounds.proofs.Kept.{IsCarried, noted_with, faulted_on, entered_with, entered_on, hands_on, by_choice, IsWalked, walk_on}
-use Rattle.agent_ties.proofs.Listening.{idle_away}
-use Rattle.replay_rounds.proofs.Moments.{with_row, phase_row}
-use Rattle.agent_ties.proofs.Rows.{in_time}
-use Rattle.agent_ties.proofs.Sends.{away_stays}
 
 -- The link's counts rose by what the journal says, at least.
 abbrev pub Counts : World → Type 0

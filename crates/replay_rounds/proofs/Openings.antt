@@ -1,7 +1,5 @@
 -- An opening leaves fewer rounds, also one that fails.
-use Rattle.std.proofs.Common.{◌≡◌, ℕ, ◌+◌, ◌-◌, ◌<◌, ◌≤◌, Bool, true, false, cond, List, [], ◌∷◌, ◌++◌, Some, refl, sym, ap, ◌∙◌, subst, arith, inl, inr}
-use Rattle.std.specs.Prelude.{nat_eq}
-use Rattle.std.proofs.lemmas.Bool.{cases_lt, eq-eqb, le-leb}
+use Rattle.std.proofs.Common.{◌≡◌, ℕ, ◌+◌, ◌-◌, ◌<◌, ◌≤◌, Bool, true, false, List, [], ◌∷◌, ◌++◌, Some, refl, ap, subst, arith}
 use Rattle.broker_tape.specs.declared.tape.Item.{Item}
 use Rattle.broker_tape.specs.Playing.{opens, room_at}
 use Rattle.agent_journal.specs.declared.entry.Cause.TheVariants as c
@@ -9,7 +7,6 @@ use Rattle.agent_journal.specs.declared.entry.Why.TheVariants as why
 use Rattle.agent_journal.specs.declared.setup.Phase.TheVariants.{Down}
 use Rattle.agent_journal.specs.Readings.{breaks_of}
 use Rattle.agent_table.specs.Histories.{readings}
-use Rattle.agent_table.specs.Readings.{at_most}
 use Rattle.agent_table.specs.Rows.{Row}
 use Rattle.agent_table.specs.Sessions.{ping_of}
 use Rattle.agent_ties.proofs.Present.{opens_few}
@@ -21,7 +18,7 @@ use Rattle.replay_rounds.specs.Bound.{weights, phase_weight}
 use Rattle.replay_rounds.proofs.Dues.{NoneDue}
 use Rattle.replay_rounds.proofs.Kept.{Any, entered_on, noted_on}
 use Rattle.replay_rounds.proofs.Moments.{IsTimely, noted_past, noted_phase}
-use Rattle.agent_ties.proofs.Rows.{Within, fault_there, gave_up_there}
+use Rattle.agent_ties.proofs.Rows.{Within, fault_there}
 use Rattle.replay_rounds.proofs.Seen.{seen}
 use Rattle.replay_rounds.proofs.Tamed.{Tamed, tamed, itself, Fewer, by_item, by_phase, rounds_in}
 use Rattle.replay_rounds.proofs.Weights.{begun_less, opens_less}

@@ -1,37 +1,23 @@
 -- What the ties of a journal see of a world, and what an entry leaves of it.
-use Rattle.std.proofs.Common.{◌≡◌, ◌⊎◌, ℕ, ◌+◌, ◌<◌, Bool, true, false, cond, List, [], ◌∷◌, length, take, Option, Some, None, is_some, refl, sym, ap, ◌∙◌, subst, arith, inl, inr}
-use Rattle.std.specs.Prelude.{nat_lt, nat_le}
-use Rattle.std.proofs.lemmas.Bool.{le-leb, ltb-true}
-use Rattle.std.specs.List.{flat_map}
-use Rattle.mqtt_packet.specs.Spelling.{spelling}
-use Rattle.mqtt_packet.specs.Splitting.{Kept as Stream}
+use Rattle.std.proofs.Common.{◌≡◌, ℕ, ◌<◌, Bool, true, false, cond, List, [], ◌∷◌, length, take, Option, Some, None, is_some, refl, sym, ap, ◌∙◌, subst}
+use Rattle.std.specs.Prelude.{nat_lt}
+use Rattle.std.proofs.lemmas.Bool.{ltb-true}
 use Rattle.agent_link.specs.Wires.{onto_last}
 use Rattle.broker_tape.specs.Playing.{fitting}
 use Rattle.agent_journal.specs.declared.entry.Cause.{Cause}
 use Rattle.agent_journal.specs.declared.entry.Cause.TheVariants as c
-use Rattle.agent_journal.specs.declared.entry.Entry.{Entry}
 use Rattle.agent_journal.specs.declared.entry.Why.TheVariants as why
-use Rattle.agent_journal.specs.declared.effect.Effect.{Effect}
 use Rattle.agent_journal.specs.declared.setup.Phase.{Phase}
 use Rattle.agent_journal.specs.declared.setup.Phase.TheVariants.{Down, Opening, Up, Spilled, Off}
-use Rattle.agent_journal.specs.declared.setup.Setup.{Setup}
-use Rattle.agent_journal.specs.Readings.{accepts, breaks_behind, breaks_of, is_break}
-use Rattle.agent_journal.specs.Wires.{sends, sent_in}
-use Rattle.agent_table.specs.Breaks.{fault_row}
-use Rattle.agent_table.specs.Histories.{phase_of, readings, row}
-use Rattle.agent_table.specs.Readings.{Readings, at_most}
+use Rattle.agent_journal.specs.Wires.{sent_in}
 use Rattle.agent_table.specs.Rows.{Row}
-use Rattle.agent_table.specs.Sends.{has_send, is_some_packet}
-use Rattle.agent_table.specs.Sizes.{Sizes}
 use Rattle.agent_ties.proofs.Seen.{faults_behind}
 use Rattle.replay_rounds.specs.World.{World, phase_in, row_in, shut_in, settled}
 use Rattle.agent_ties.specs.Seen.{entry, Seen, with_entry, with_bytes}
 use Rattle.replay_rounds.specs.Entering.{noted, noted_by, failed, onto_wire, sends_some, entered, entered_by}
 use Rattle.replay_rounds.specs.Entering as entering
-use Rattle.replay_rounds.proofs.Moments.{with_row, phase_row}
-use Rattle.agent_ties.proofs.Rows.{timely, in_time}
+use Rattle.replay_rounds.proofs.Moments.{with_row}
 use Rattle.agent_ties.proofs.Wires.{onto_nothing}
-use Rattle.agent_ties.proofs.Sends.{Silent, nothing, down_mild}
 
 abbrev pub seen : World → Seen
 seen w = record { setup = w.setup; sizes = w.sizes; past = w.past; taken = w.taken; given = w.given; stream = w.stream }

@@ -1,19 +1,16 @@
 -- The ties of a journal to its link, followed through a round.
-use Rattle.std.proofs.Common.{◌≡◌, ℕ, ◌<◌, ◌≤◌, true, false, List, length, take, Option, Some, None, is_some, refl, sym, ap, ◌∙◌, subst, arith}
+use Rattle.std.proofs.Common.{◌≡◌, ℕ, ◌<◌, ◌≤◌, true, false, List, length, Option, Some, None, refl, sym, subst}
 use Rattle.mqtt_packet.specs.declared.packet.Packet.{Packet}
 use Rattle.mqtt_packet.specs.declared.splitter.Next.{Next}
 use Rattle.mqtt_packet.specs.declared.splitter.Next.TheVariants as answers
 use Rattle.mqtt_packet.specs.Splitting.{Kept as Stream}
 use Rattle.mqtt_packet.specs.Steps.{next_of}
-use Rattle.mqtt_packet.proofs.Uniqueness.{spelled_are_sound}
-use Rattle.agent_link.specs.Wires.{onto_last}
 use Rattle.agent_journal.specs.declared.entry.Cause.{Cause}
 use Rattle.agent_journal.specs.declared.entry.Cause.TheVariants as c
 use Rattle.agent_journal.specs.declared.entry.Why.{Why}
 use Rattle.agent_journal.specs.declared.entry.Why.TheVariants as why
 use Rattle.agent_journal.specs.Readings.{last_time_of}
-use Rattle.agent_journal.specs.Wires.{is_opened, sent_in}
-use Rattle.agent_table.specs.Histories.{readings}
+use Rattle.agent_journal.specs.Wires.{is_opened}
 use Rattle.agent_table.specs.Rows.{Row}
 use Rattle.agent_table.specs.Ties.{Moment, arrived, listens, is_bad_bytes, Rejects}
 use Rattle.agent_ties.specs.Ties.{Ties, Handing}
@@ -24,20 +21,12 @@ use Rattle.replay_rounds.specs.World.{World, phase_in, row_in}
 use Rattle.replay_rounds.specs.Entering.{entered, entered_by, noted}
 use Rattle.broker_tape.specs.Given.{GivesBytes}
 use Rattle.replay_rounds.specs.Receiving.{handed}
-use Rattle.agent_ties.proofs.Seen.{found_by}
 use Rattle.replay_rounds.proofs.Given.{closed_gives}
-use Rattle.agent_ties.proofs.Handed.{shorter, next_spells, next_bad, next_long, none_left, one_left, rejected, arrived_on, arrived_cut, rejected_on}
-use Rattle.agent_ties.specs.Heard.{AreHeard, AreHanding, IsGoing, IsPlain}
-use Rattle.agent_ties.proofs.Heard.{heard_on}
+use Rattle.agent_ties.proofs.Handed.{shorter, next_bad, next_long, none_left}
+use Rattle.agent_ties.specs.Heard.{AreHanding, IsGoing, IsPlain}
 use Rattle.replay_rounds.proofs.Kept.{IsCarried, Any, entered_on, noted_on}
-use Rattle.agent_ties.proofs.Listening.{arrived_some, bytes_some, bytes_away}
-use Rattle.agent_ties.proofs.Rows.{timely, in_time}
-use Rattle.agent_ties.specs.Seen.{Seen, row_seen, with_entry}
 use Rattle.replay_rounds.proofs.Seen.{seen, noted_seen, entered_seen}
-use Rattle.agent_ties.proofs.Sends.{nothing, broke_silent}
 use Rattle.agent_ties.specs.Wired.{AreWired}
-use Rattle.agent_ties.proofs.Wired.{wired_on, parts_on, cut_on, noted_wired}
-use Rattle.agent_ties.proofs.Wires.{onto_nothing}
 
 pub record Holds (w : World) : Type 0 where
   pub ties : Ties (seen w)

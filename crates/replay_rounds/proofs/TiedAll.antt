@@ -4,26 +4,20 @@ use Rattle.agent_link.specs.Counts.{uncounted}
 use Rattle.broker_tape.specs.declared.tape.Item.{Item}
 use Rattle.agent_script.specs.declared.script.Line.{Line}
 use Rattle.agent_journal.specs.declared.setup.Setup.{Setup}
-use Rattle.agent_journal.specs.Wires.{connections, Wired, AreReadings}
+use Rattle.agent_journal.specs.Wires.{AreReadings}
 use Rattle.agent_table.specs.Sizes.{Sizes}
-use Rattle.agent_table.specs.Ties.{stages, Heard, IsCounted, IsTied}
+use Rattle.agent_table.specs.Ties.{IsCounted, IsTied}
 use Rattle.agent_ties.proofs.Whole.{ties_are_whole}
 use Rattle.replay_rounds.specs.World.{World}
 use Rattle.broker_tape.specs.Given.{GivesBytes}
 use Rattle.replay_rounds.specs.Rounds.{after, begun}
 use Rattle.replay_rounds.proofs.Counted.{counted_after}
 use Rattle.replay_rounds.proofs.Ends.{begun_steady}
-use Rattle.agent_ties.specs.Heard.{LastHeard, IsHandedIn}
-use Rattle.agent_ties.proofs.Heard.{is_heard}
 use Rattle.replay_rounds.proofs.Seen.{seen}
-use Rattle.agent_ties.specs.Seen.{phase_seen}
 use Rattle.replay_rounds.proofs.Stays.{after_of}
 use Rattle.agent_ties.specs.Ties.{Ties}
 use Rattle.replay_rounds.proofs.TiedRounds.{ties_after}
 use Rattle.replay_rounds.proofs.Times.{HasReadings, read_after, has_readings}
-use Rattle.agent_ties.specs.Wired.{LastWired}
-use Rattle.agent_ties.proofs.Wired.{is_wired}
-use Rattle.agent_ties.proofs.Wires.{each_tied}
 
 tied_of : (w : World) (readings : List ℕ) → Ties (seen w) → AreReadings readings w.past → IsCounted w.past uncounted w.counts
     → IsTied w.setup w.sizes w.past w.taken w.given readings uncounted w.counts

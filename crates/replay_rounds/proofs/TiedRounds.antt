@@ -1,7 +1,6 @@
 -- The ties of a journal to its link, followed through all rounds.
-use Rattle.std.proofs.Common.{◌≡◌, ℕ, zero, suc, ◌+◌, ◌<◌, ◌≤◌, Bool, true, false, cond, List, [], ◌∷◌, ◌++◌, length, take, Option, Some, None, is_some, refl, sym, ap, ◌∙◌, subst, arith, inl, inr}
+use Rattle.std.proofs.Common.{◌≡◌, ℕ, zero, suc, ◌+◌, ◌<◌, ◌≤◌, Bool, true, false, cond, List, [], ◌∷◌, ◌++◌, length, take, Option, Some, None, is_some, refl, sym, ap, subst, arith}
 use Rattle.std.specs.Prelude.{nat_le}
-use Rattle.std.proofs.lemmas.Bool.{le-leb}
 use Rattle.mqtt_packet.specs.declared.splitter.Next.{Next}
 use Rattle.mqtt_packet.specs.Splitting.{Kept as Stream}
 use Rattle.mqtt_packet.specs.Steps.{next_of, fed_to}
@@ -15,7 +14,6 @@ use Rattle.broker_tape.specs.declared.tape.Item.{Item}
 use Rattle.broker_tape.specs.Playing.{hears, present, opens, room_at}
 use Rattle.agent_journal.specs.declared.entry.Cause.{Cause}
 use Rattle.agent_journal.specs.declared.entry.Cause.TheVariants as c
-use Rattle.agent_journal.specs.declared.entry.Entry.{Entry}
 use Rattle.agent_journal.specs.declared.entry.Why.TheVariants as why
 use Rattle.agent_journal.specs.declared.request.Request.{Request}
 use Rattle.agent_journal.specs.declared.request.Request.TheVariants as requests
@@ -24,15 +22,10 @@ use Rattle.agent_script.specs.declared.script.Step.{Step}
 use Rattle.agent_script.specs.declared.script.Step.TheVariants as steps
 use Rattle.agent_journal.specs.declared.setup.Phase.{Phase}
 use Rattle.agent_journal.specs.declared.setup.Phase.TheVariants.{Down, Opening, Up, Spilled, Off}
-use Rattle.agent_journal.specs.declared.setup.Setup.{Setup}
-use Rattle.agent_journal.specs.Readings.{last_time_of, takes_of, breaks_of}
-use Rattle.agent_journal.specs.Wires.{is_opened, sent_in}
-use Rattle.agent_table.specs.Breaks.{opened_row}
-use Rattle.agent_table.specs.Histories.{phase_by, phase_of, readings, row, due_by}
+use Rattle.agent_journal.specs.Readings.{last_time_of, takes_of}
+use Rattle.agent_table.specs.Histories.{readings, due_by}
 use Rattle.agent_table.specs.Readings.{at_most}
-use Rattle.agent_table.specs.Rows.{Row}
-use Rattle.agent_table.specs.Sizes.{Sizes}
-use Rattle.agent_table.specs.Ties.{Moment, moment, stages, listens}
+use Rattle.agent_table.specs.Ties.{listens}
 use Rattle.agent_ties.proofs.Present.{going_there, opened_there}
 use Rattle.agent_ties.proofs.Keeping.{first_whole, first_part}
 use Rattle.replay_rounds.specs.World.{World, phase_in, row_in}
@@ -40,27 +33,21 @@ use Rattle.replay_rounds.specs.Entering.{entered, noted, failed}
 use Rattle.broker_tape.specs.Given.{GivesBytes}
 use Rattle.replay_rounds.specs.Lines.{told_up, told_off, passes, submits, is_none_open, takes_step, takes_by, takes, ends_step, ends_by, ends}
 use Rattle.replay_rounds.specs.Receiving.{handed, hands, idles, received_by, receives}
-use Rattle.agent_ties.specs.Seen.{fresh, Seen, phase_seen, with_entry}
+use Rattle.agent_ties.specs.Seen.{fresh}
 use Rattle.replay_rounds.specs.Rounds.{opened_by, opening, acts_in, acts_by, acts, round, has_ended, after}
 use Rattle.replay_rounds.proofs.Dues.{NoneDue, none_due}
-use Rattle.agent_ties.proofs.Dues.{IsDue, one_of, due_plain}
-use Rattle.agent_ties.proofs.Seen.{found_by}
+use Rattle.agent_ties.proofs.Dues.{one_of, due_plain}
 use Rattle.replay_rounds.proofs.Ends.{IsSteady, next_time, round_steady}
 use Rattle.replay_rounds.proofs.Given.{opens_gives, hears_gives, present_gives}
-use Rattle.agent_ties.proofs.Handed.{fed_on, stopped, opened_heard}
-use Rattle.agent_ties.specs.Heard.{AreHanding, IsGoing, LastHeard, IsPlain}
-use Rattle.agent_ties.proofs.Heard.{heard_on, listened}
+use Rattle.agent_ties.proofs.Handed.{fed_on, stopped}
+use Rattle.agent_ties.specs.Heard.{AreHanding}
 use Rattle.replay_rounds.proofs.Kept.{Any, entered_on, hands_on, passes_with, by_choice}
 use Rattle.replay_rounds.proofs.Moments.{IsTimely, timely_kept}
 use Rattle.replay_rounds.proofs.Openings.{may_fail}
-use Rattle.agent_ties.proofs.Rows.{timely, in_time, small_reading}
 use Rattle.replay_rounds.proofs.Seen.{seen, entered_seen}
-use Rattle.agent_ties.proofs.Sends.{is_gone, gone_stays, gone_away}
 use Rattle.agent_ties.specs.Ties.{Ties}
 use Rattle.replay_rounds.proofs.Tied.{Holds, gives_on, entered_holds, noted_holds, handed_in}
 use Rattle.agent_ties.specs.Wired.{AreWired}
-use Rattle.agent_ties.proofs.Wired.{cut_on, opened_whole, opened_part}
-use Rattle.agent_ties.proofs.Wires.{last_there}
 
 module _ (now : ℕ) where
   -- ---- Receives

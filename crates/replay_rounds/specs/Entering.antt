@@ -5,7 +5,6 @@ use Rattle.agent_link.specs.Wires.{onto_last}
 use Rattle.broker_tape.specs.Playing.{fitting, room_behind}
 use Rattle.agent_journal.specs.declared.entry.Cause.{Cause}
 use Rattle.agent_journal.specs.declared.entry.Cause.TheVariants as c
-use Rattle.agent_journal.specs.declared.entry.Entry.{Entry}
 use Rattle.agent_journal.specs.declared.entry.Why.TheVariants as why
 use Rattle.agent_journal.specs.Wires.{sent_in}
 use Rattle.agent_table.specs.Rows.{Row}

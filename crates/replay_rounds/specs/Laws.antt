@@ -1,5 +1,5 @@
 -- Laws of replays, each the contract of a function that does nothing.
-use Rattle.std.specs.Prelude.{◌≡◌, ℕ, true, Some, IfSome, List, [], ◌∷◌, ◌++◌}
+use Rattle.std.specs.Prelude.{◌≡◌, ℕ, Some, IfSome, List, [], ◌∷◌, ◌++◌}
 use Rattle.std.specs.List.{AllByRecursion}
 use Rattle.agent_link.specs.Clocks.{told_readings}
 use Rattle.agent_link.specs.Counts.{uncounted}
@@ -19,7 +19,7 @@ use Rattle.replay_rounds.specs.Asked.{IsValidLine}
 use Rattle.agent_table.specs.Endings.{ending_of}
 use Rattle.broker_tape.specs.Given.{GivesBytes, AreFronts, wires}
 use Rattle.replay_rounds.specs.World.{World}
-use Rattle.replay_rounds.specs.Rounds.{after, begun, has_ended}
+use Rattle.replay_rounds.specs.Rounds.{after, begun}
 use Rattle.replay_rounds.specs.Plays.{LeadsTo}
 
 -- Every round adds what the table gives: a world that begins with a legal past goes on with legal ones.

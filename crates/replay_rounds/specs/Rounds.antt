@@ -1,6 +1,5 @@
 -- What a replay does, round by round, and when it ends.
 use Rattle.std.specs.Prelude.{ℕ, zero, suc, Bool, true, false, ◌&&◌, List, [], ◌∷◌, ◌++◌, Option, Some, None, if◌then◌else◌}
-use Rattle.mqtt_packet.specs.Splitting.{Kept}
 use Rattle.agent_link.specs.Clocks.{step_reading, after_reading}
 use Rattle.agent_link.specs.Counts.{uncounted}
 use Rattle.broker_tape.specs.declared.tape.Item.{Item}

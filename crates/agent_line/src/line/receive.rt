@@ -112,7 +112,12 @@ impl Line {
                 Next::Packet(packet) => self.arrive(recorder, link, now, packet)?,
                 Next::More => return Ok(()),
                 Next::Bad { at } => return break_off(recorder, link, now, Why::Bad { at }),
-                Next::TooLong { len, .. } => return break_off(recorder, link, now, Why::TooLong { len }),
+                Next::TooLong { len, .. } => return break_off(
+                    recorder,
+                    link,
+                    now,
+                    Why::TooLong { len },
+                ),
             }
         }
         Ok(())

@@ -1,4 +1,4 @@
-use Rattle.std.proofs.Common.{◌≡◌, ℕ, List, [], ◌∷◌, ◌<◌, length, refl, sym, ap, ◌∙◌, arith, rules}
+use Rattle.std.proofs.Common.{◌≡◌, ℕ, List, [], ◌∷◌, length, refl, sym, ap, ◌∙◌, arith, rules}
 use Rattle.agent_journal.specs.Wires.{sent_in}
 use Rattle.agent_line.specs.Told.{more_on}
 use Rattle.agent_ties.proofs.Counting.{same_later}

@@ -1,4 +1,4 @@
-use Rattle.std.proofs.Common.{refl, ap, ◌∙◌, arith, [], is_some}
+use Rattle.std.proofs.Common.{ap, ◌∙◌, arith, [], is_some}
 use Rattle.std.specs.Prelude.{Err}
 use Rattle.agent_link.specs.Counts.{counted}
 use Rattle.agent_ties.specs.Seen.{fresh}

@@ -1,4 +1,4 @@
-use Rattle.std.proofs.Common.{◌≡◌, ◌≤◌, refl, sym, ap, ◌∙◌, arith}
+use Rattle.std.proofs.Common.{ap, ◌∙◌}
 use Rattle.std.specs.Prelude.{Ok, Err}
 use Rattle.agent_link.specs.Counts.{counted}
 use Rattle.agent_link.specs.Wires.{after_recv, ended, silent}
@@ -59,6 +59,6 @@ pub returns-in_ok-idle_on-in-Ok-Nothing-clause-nothing : goal.returns-in_ok-idle
 returns-in_ok-idle_on-in-Ok-Nothing-clause-nothing g c =
     λ e. (
       ap (λ (t : Told). t.counts.nothings) c.in_ok-idle_on-in-Ok-Nothing.ensures.same ∙ c.in-Ok-Nothing.ensures.nothings
-      ∙ ap (λ (h : Heard). silent (Ok h) (g.L.Link.nothings c.args.link.now)) c.in-Ok-Nothing.field-0-is,
+          ∙ ap (λ (h : Heard). silent (Ok h) (g.L.Link.nothings c.args.link.now)) c.in-Ok-Nothing.field-0-is,
       c.in_ok-idle_on-in-Ok-Nothing.ensures.idled,
     )

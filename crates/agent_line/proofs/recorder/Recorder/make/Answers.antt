@@ -5,10 +5,11 @@ use Rattle.agent_line.proofs.Making.{row_kept, makes}
 use Rattle.agent_line.proofs.recorder.Recorder.make.Goals as goal
 
 pub step-requires : goal.step-requires
-step-requires g c =
-    (omega arith,
-    row_kept c.self.inside.core (reverse c.self.inside.entries.items) c.args.at c.args.cause c.self.invariant.0
-    (subst (λ (r : Recorded). is_some (row_in r c.args.at c.args.cause) ≡ true) (sym c.self.view_is) c.requires.may))
+step-requires g c = (
+  omega arith,
+  row_kept c.self.inside.core (reverse c.self.inside.entries.items) c.args.at c.args.cause c.self.invariant.0
+      (subst (λ (r : Recorded). is_some (row_in r c.args.at c.args.cause) ≡ true) (sym c.self.view_is) c.requires.may),
+)
 
 pub returns-in-Ok-clause-made : goal.returns-in-Ok-clause-made
 returns-in-Ok-clause-made g c =
