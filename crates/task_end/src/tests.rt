@@ -163,6 +163,7 @@ fn outcome<J: Named, R: Wait>(rt: &R, end: &mut TaskEnd<J, 1, 1, 2>, ticket: Tic
 }
 
 /// Why a ping is refused.
+#[tactic(auto, unfolding(agent_journal::specs::Requests::is_valid))]
 fn refusal<J: Named, R: Wait>(rt: &R, end: &mut TaskEnd<J, 1, 1, 2>) -> SubmitFault
     ensures out { end.new.side.out ≡ end.old.side.out }
     ensures pool { end.new.side.permits.pool ≡ end.old.side.permits.pool }
@@ -178,6 +179,7 @@ fn refusal<J: Named, R: Wait>(rt: &R, end: &mut TaskEnd<J, 1, 1, 2>) -> SubmitFa
 }
 
 /// Whether a command ends as it must, and its number is free again.
+#[tactic(auto, unfolding(agent_journal::specs::Requests::is_valid))]
 fn command_ends<J: Named, R: Wait>(
     rt: &R,
     alloc: Global,
