@@ -1,0 +1,5 @@
+pub mod Drawing
+pub mod Examples
+pub mod Risen
+pub mod Rows
+pub mod Steady
