@@ -1,5 +1,9 @@
 pub mod Drawing
+pub mod Events
 pub mod Examples
+pub mod Falling
+pub mod Passing
 pub mod Risen
 pub mod Rows
 pub mod Steady
+pub mod Tying

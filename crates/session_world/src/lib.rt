@@ -5,11 +5,14 @@ mod draws;
 mod event;
 mod laws;
 mod notes;
+mod parts;
 mod queue;
 mod totals;
+mod world;
 
 pub use draws::generate;
 pub use event::{Event, Played};
 pub use laws::{begins_empty, passed_once, stay_ready, told_once};
 pub use mqtt_packet::NoMemory;
 pub use totals::Totals;
+pub use world::World;

@@ -1,6 +1,6 @@
 //! A queue that takes in a whole piece at a time and gives its items one by one.
 
-ghost use Rattle.std.specs.Prelude.{◌≡◌, ◌++◌, [], ◌∷◌, OnOk, OnErr, OnSome};
+ghost use Rattle.std.specs.Prelude.{◌≡◌, ◌++◌, [], ◌∷◌, IfNone, OnOk, OnSome};
 ghost use Rattle.std.specs.Option.{option_to_list};
 ghost use Rattle.session_world.specs.Queued.{items_in, HasRoom, HasSpare};
 
@@ -45,6 +45,7 @@ impl<T: Drop> Queue<T> {
     /// The first item, if there is one. It can be put back without memory.
     pub(crate) fn pop(&mut self) -> Option<T>
         ensures items { items_in self.old ≡ option_to_list result ++ items_in self.new }
+        ensures none { IfNone result (items_in self.old ≡ []) }
         ensures spare { OnSome result (HasSpare self.new) }
     {
         self.turn();
