@@ -7,6 +7,7 @@ mod laws;
 mod notes;
 mod parts;
 mod queue;
+mod seeded;
 mod totals;
 mod world;
 
@@ -14,5 +15,6 @@ pub use draws::generate;
 pub use event::{Event, Played};
 pub use laws::{begins_empty, passed_once, stay_ready, told_once};
 pub use mqtt_packet::NoMemory;
+pub use seeded::run;
 pub use totals::Totals;
 pub use world::World;
