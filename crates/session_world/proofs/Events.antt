@@ -74,6 +74,7 @@ crashed_ties k w at breaks one same h = by (phase dev usual w) h
   where
     more : breaks ≡ w.breaks + 1
     more = one ∙ ap (λ n. n + 1) same
+
     again : (v1 v2 : World) → v2 ≡ record v1 { breaks = w.breaks + 1 } → Ties k v1 → Ties (record k { breaks = breaks }) v2
     again v1 v2 is h = subst (Ties (record k { breaks = breaks })) (sym is) (record {
       setup = h.setup;
@@ -92,9 +93,11 @@ crashed_ties k w at breaks one same h = by (phase dev usual w) h
       breaks = more;
       few = h.few;
     })
+
     go : (r : Option Row) → Ties k (emptied dev usual (faulted_by dev usual r at w)) → Ties (record k { breaks = breaks }) (emptied dev usual (faulted_by dev usual r at (record w { breaks = w.breaks + 1 })))
     go None h = again (emptied dev usual (faulted_by dev usual None at w)) (emptied dev usual (faulted_by dev usual None at (record w { breaks = w.breaks + 1 }))) refl h
     go (Some found) h = again (emptied dev usual (faulted_by dev usual (Some found) at w)) (emptied dev usual (faulted_by dev usual (Some found) at (record w { breaks = w.breaks + 1 }))) refl h
+
     by : (p : Phase) → Ties k (emptied dev usual (faulted_in dev usual p at w)) → Ties (record k { breaks = breaks }) (emptied dev usual (faulted_in dev usual p at (record w { breaks = w.breaks + 1 })))
     by Down h = again (emptied dev usual w) (emptied dev usual (record w { breaks = w.breaks + 1 })) refl h
     by Opening h = go (row dev usual (entries w) at (c.Broke why.Fault)) h
@@ -144,27 +147,29 @@ rest_of (y ∷ ys) = ys
 pub without_first : (k : Kept) (packet : Packet) (rest : List Packet) (x : Falling) (down : List Falling) (w : World) → k.down ≡ packet ∷ rest → w.down ≡ x ∷ down → StandsFor k w
     → (packet ≡ x.packet) × StandsFor (record k { down = rest }) (record w { down = down })
 without_first k packet rest x down w first is h =
-    let list : packet ∷ rest ≡ x.packet ∷ falls_in down = sym first ∙ h.ties.falls ∙ ap falls_in is in
-    (ap (first_or packet) list, record {
-      ties = record {
-        setup = h.ties.setup;
-        sizes = h.ties.sizes;
-        journal = h.ties.journal;
-        told = h.ties.told;
-        rises = h.ties.rises;
-        falls = ap rest_of list;
-        count = h.ties.count;
-        takes = h.ties.takes;
-        published = h.ties.published;
-        done = h.ties.done;
-        passes = h.ties.passes;
-        events = h.ties.events;
-        own = h.ties.own;
-        breaks = h.ties.breaks;
-        few = h.ties.few;
-      };
-      ready = record { steady = record { legal = h.ready.steady.legal; sound = h.ready.steady.sound; gone = h.ready.steady.gone }; entries = h.ready.entries; own = h.ready.own; breaks = h.ready.breaks };
-    })
+    let list : packet ∷ rest ≡ x.packet ∷ falls_in down = sym first ∙ h.ties.falls ∙ ap falls_in is in (
+      ap (first_or packet) list,
+      record {
+        ties = record {
+          setup = h.ties.setup;
+          sizes = h.ties.sizes;
+          journal = h.ties.journal;
+          told = h.ties.told;
+          rises = h.ties.rises;
+          falls = ap rest_of list;
+          count = h.ties.count;
+          takes = h.ties.takes;
+          published = h.ties.published;
+          done = h.ties.done;
+          passes = h.ties.passes;
+          events = h.ties.events;
+          own = h.ties.own;
+          breaks = h.ties.breaks;
+          few = h.ties.few;
+        };
+        ready = record { steady = record { legal = h.ready.steady.legal; sound = h.ready.steady.sound; gone = h.ready.steady.gone }; entries = h.ready.entries; own = h.ready.own; breaks = h.ready.breaks };
+      },
+    )
 
 -- so what is left stands for a world too
 pub stood_without_first : (k : Kept) (packet : Packet) (rest : List Packet) → k.down ≡ packet ∷ rest → Stood k → Stood (record k { down = rest })
@@ -252,6 +257,7 @@ up_played k b packet rest downs packets close there first replies stands pushed 
   where
     new : Kept
     new = record k { broker = b; up = rest; down = downs }
+
     go : (t : Bool) (up : List Rising) → t ≡ true → w.up ≡ up → IsPlayed o.Yes (delivers_up dev usual t up w) w new
     go true [] t is = absurd (cc (sym first ∙ h.ties.rises ∙ ap rises_in is))
     go true (x ∷ up) t is =
@@ -273,9 +279,11 @@ up_played k b packet rest downs packets close there first replies stands pushed 
           own = h.ties.own;
           breaks = h.ties.breaks;
           few = h.ties.few;
-        } in
-        (refl, subst (λ p. Ties new (told_of dev usual (brokers.Comes p) x.origin (record w { up = up }))) same
-        (told_ties (record k { up = rest }) b downs packets close (brokers.Comes packet) x.origin (record w { up = up }) replies stands pushed left))
+        } in (
+          refl,
+          subst (λ p. Ties new (told_of dev usual (brokers.Comes p) x.origin (record w { up = up }))) same
+              (told_ties (record k { up = rest }) b downs packets close (brokers.Comes packet) x.origin (record w { up = up }) replies stands pushed left),
+        )
     go false up t is = absurd (cc t)
 
 -- ---- The broker's own message
@@ -285,24 +293,26 @@ pub local_played : (k new : Kept) (qos : Qos) (own : ℕ)
     → ((w : World) (origin : Option Origin) → StandsFor k w → Ties new (told_of dev usual (brokers.Publishes qos own_topic (four_bytes k.own)) origin w)) → new.own ≡ k.own → own ≡ new.own + 1
     → Plays k (v.LocalPublish qos) o.Yes (record new { own = own })
 local_played k new qos own told same one w h =
-    let made = told w (Some (Own w.own)) h in
-    (refl, subst (λ n. Ties (record new { own = own }) (told_of dev usual (brokers.Publishes qos own_topic (four_bytes n)) (Some (Own w.own)) (record w { own = w.own + 1 }))) h.ties.own (record {
-      setup = made.setup;
-      sizes = made.sizes;
-      journal = made.journal;
-      told = made.told;
-      rises = made.rises;
-      falls = made.falls;
-      count = made.count;
-      takes = made.takes;
-      published = made.published;
-      done = made.done;
-      passes = made.passes;
-      events = made.events;
-      own = one ∙ ap (λ n. n + 1) (same ∙ h.ties.own);
-      breaks = made.breaks;
-      few = made.few;
-    }))
+    let made = told w (Some (Own w.own)) h in (
+      refl,
+      subst (λ n. Ties (record new { own = own }) (told_of dev usual (brokers.Publishes qos own_topic (four_bytes n)) (Some (Own w.own)) (record w { own = w.own + 1 }))) h.ties.own (record {
+        setup = made.setup;
+        sizes = made.sizes;
+        journal = made.journal;
+        told = made.told;
+        rises = made.rises;
+        falls = made.falls;
+        count = made.count;
+        takes = made.takes;
+        published = made.published;
+        done = made.done;
+        passes = made.passes;
+        events = made.events;
+        own = one ∙ ap (λ n. n + 1) (same ∙ h.ties.own);
+        breaks = made.breaks;
+        few = made.few;
+      }),
+    )
 
 -- ---- Any event
 

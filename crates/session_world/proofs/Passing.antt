@@ -11,8 +11,10 @@ one_more test passed k message b is same = go b same
   where
     within : k < length passed
     within = slice_get_within passed k message (sym is)
+
     there : (b : Bool) → b ≡ test message → test (get_or passed k message) ≡ b
     there b same = ap test (get_or_from_slice_get passed k message message (sym is)) ∙ sym same
+
     go : (b : Bool) → b ≡ test message → count_by test (take (k + 1) passed) ≡ cond b (count_by test (take k passed) + 1) (count_by test (take k passed))
     go true same = count_by_more_yes test passed k message within (there true same)
     go false same = count_by_more_no test passed k message within (there false same)

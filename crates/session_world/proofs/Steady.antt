@@ -79,6 +79,7 @@ module _ (s : Setup) (l : Sizes) where
       some c.Tick found e = steady_by w (stepped_by s l (Some found) place at c.Tick w) place at c.Tick found client wipe tt e h refl refl
       some c.GaveUp found e = steady_by w (stepped_by s l (Some found) place at c.GaveUp w) place at c.GaveUp found client wipe tt e h refl refl
       some c.Finish found e = steady_by w (stepped_by s l (Some found) place at c.Finish w) place at c.Finish found client wipe tt e h refl refl
+
       go : (r : Option Row) → row s l (entries w) at cause ≡ r → IsSteady s l (stepped_by s l r place at cause w)
       go None e = h
       go (Some found) e = some cause found e
@@ -90,6 +91,7 @@ module _ (s : Setup) (l : Sizes) where
       go : (r : Option Row) → row s l (entries w) at (c.Broke why.Fault) ≡ r → IsLegalPast s l (entries (faulted_by s l r at w))
       go None e = legal
       go (Some found) e = legal_behind (entries w) at (c.Broke why.Fault) found e legal
+
       by : (phase : Phase) → IsLegalPast s l (entries (faulted_in s l phase at w))
       by Down = legal
       by Opening = go (row s l (entries w) at (c.Broke why.Fault)) refl
@@ -172,6 +174,7 @@ module _ (s : Setup) (l : Sizes) where
     where
       more : (new : World) → new.own ≡ w.own → new.breaks ≡ w.breaks → new.events ≡ w.events → length new.past ≡ length w.past + 1 → IsOneMore w new
       more new own breaks events past = record { entries = omega (arith, past); own = omega (arith, own); breaks = omega (arith, breaks); events = events }
+
       go : (r : Option Row) (cause : Cause) → IsOneMore w (stepped_by s l r place at cause w)
       go None cause = same w
       go (Some found) (c.Broke reason) = more (stepped_by s l (Some found) place at (c.Broke reason) w) refl refl refl (omega arith)
@@ -188,6 +191,7 @@ module _ (s : Setup) (l : Sizes) where
       go : (r : Option Row) → (length (faulted_by s l r at w).past ≤ length w.past + 1) × ((faulted_by s l r at w).own ≡ w.own) × ((faulted_by s l r at w).breaks ≡ w.breaks) × ((faulted_by s l r at w).events ≡ w.events)
       go None = (omega arith, refl, refl, refl)
       go (Some found) = (omega arith, refl, refl, refl)
+
       by : (phase : Phase) → (length (faulted_in s l phase at w).past ≤ length w.past + 1) × ((faulted_in s l phase at w).own ≡ w.own) × ((faulted_in s l phase at w).breaks ≡ w.breaks) × ((faulted_in s l phase at w).events ≡ w.events)
       by Down = (omega arith, refl, refl, refl)
       by Opening = go (row s l (entries w) at (c.Broke why.Fault))

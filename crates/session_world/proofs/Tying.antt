@@ -64,24 +64,26 @@ pub noted_ties : (k : Kept) (core : agent.Kept) (notes : Notes) (e : Entry) (at 
     → (e.effects ≡ found.effects) × Ties (record k { core = core; notes = notes }) (noted dev usual place at cause found.effects w)
 noted_ties k core notes e at cause w place found h is at_is cause_is effects stands setup sizes adds =
     let same : found.effects ≡ e.effects = some_of found e.effects (sym (ap effects_of (row_ties k w at cause h ∙ is)) ∙ effects) in
-    let entry : e ≡ record { at = at; cause = cause; effects = found.effects } = λ i. record { at = at_is i; cause = cause_is i; effects = sym same i } in
-    (sym same, record {
-      setup = setup ∙ h.setup;
-      sizes = sizes ∙ h.sizes;
-      journal = subst (λ x. agents.StandsFor core (x ∷ entries w)) entry (stands (entries w) h.journal);
-      told = h.told;
-      rises = h.rises;
-      falls = h.falls;
-      count = adds.entries ∙ ap (λ n. n + 1) h.count ∙ omega arith;
-      takes = adds.takes ∙ ap (λ x. takes_behind 0 x k.notes.takes) cause_is ∙ ap (takes_behind 0 cause) h.takes;
-      published = adds.published ∙ (λ i. h.published i + published_by (entry i));
-      done = adds.done ∙ (λ i. h.done i + done_by (entry i));
-      passes = adds.told ∙ (λ i. h.passes i + told_by (entry i));
-      events = h.events;
-      own = h.own;
-      breaks = h.breaks;
-      few = adds.few;
-    })
+    let entry : e ≡ record { at = at; cause = cause; effects = found.effects } = λ i. record { at = at_is i; cause = cause_is i; effects = sym same i } in (
+      sym same,
+      record {
+        setup = setup ∙ h.setup;
+        sizes = sizes ∙ h.sizes;
+        journal = subst (λ x. agents.StandsFor core (x ∷ entries w)) entry (stands (entries w) h.journal);
+        told = h.told;
+        rises = h.rises;
+        falls = h.falls;
+        count = adds.entries ∙ ap (λ n. n + 1) h.count ∙ omega arith;
+        takes = adds.takes ∙ ap (λ x. takes_behind 0 x k.notes.takes) cause_is ∙ ap (takes_behind 0 cause) h.takes;
+        published = adds.published ∙ (λ i. h.published i + published_by (entry i));
+        done = adds.done ∙ (λ i. h.done i + done_by (entry i));
+        passes = adds.told ∙ (λ i. h.passes i + told_by (entry i));
+        events = h.events;
+        own = h.own;
+        breaks = h.breaks;
+        few = adds.few;
+      },
+    )
 
 -- ---- What an entry sends
 
@@ -227,8 +229,10 @@ fault_none_in k w at p none h = by p
     go : (r : Option Row) → is_some r ≡ false → Ties k (faulted_by dev usual r at w)
     go None e = h
     go (Some found) e = absurd (cc e)
+
     here : Ties k (faulted_by dev usual (row dev usual (entries w) at (c.Broke why.Fault)) at w)
     here = go (row dev usual (entries w) at (c.Broke why.Fault)) (sym (ap is_some (row_ties k w at (c.Broke why.Fault) h)) ∙ none)
+
     by : (p : Phase) → Ties k (faulted_in dev usual p at w)
     by Down = h
     by Opening = here
@@ -249,8 +253,10 @@ fault_made_in k new w at p some now h made = by p now
     go : (r : Option Row) → row dev usual (entries w) at (c.Broke why.Fault) ≡ r → Ties new (faulted_by dev usual r at w)
     go None e = absurd (cc (sym some ∙ ap is_some (row_ties k w at (c.Broke why.Fault) h ∙ e)))
     go (Some found) e = made found e
+
     here : Ties new (faulted_by dev usual (row dev usual (entries w) at (c.Broke why.Fault)) at w)
     here = go (row dev usual (entries w) at (c.Broke why.Fault)) refl
+
     by : (p : Phase) → is_connected p ≡ true → Ties new (faulted_in dev usual p at w)
     by Down e = absurd (cc e)
     by Opening e = here

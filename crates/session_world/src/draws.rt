@@ -146,8 +146,5 @@ fn next(state: u64) -> u64
 pub(crate) fn number(alloc: Global, n: u32) -> Result<Blob, NoMemory>
     ensures { IfOk result (λ bytes. bytes ≡ four_bytes n) }
 {
-    Ok(Seq::from_vec(Vec::from_slice(
-        alloc,
-        n.to_be_bytes().as_slice(),
-    )?))
+    Ok(Seq::from_vec(Vec::from_slice(alloc, n.to_be_bytes().as_slice())?))
 }

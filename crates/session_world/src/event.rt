@@ -17,9 +17,7 @@ pub enum Event {
     /// The agent opens a connection.
     Reopen,
     /// The broker publishes a message of its own on `in/a`, whose payload is the number of those before it, in 4 bytes.
-    LocalPublish {
-        qos: Qos,
-    },
+    LocalPublish { qos: Qos },
     /// The agent does what is due.
     Tick,
 }

@@ -18,3 +18,6 @@ pub use mqtt_packet::NoMemory;
 pub use seeded::run;
 pub use totals::Totals;
 pub use world::World;
+
+#[cfg(test)]
+mod tests;

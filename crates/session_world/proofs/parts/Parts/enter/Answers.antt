@@ -20,10 +20,10 @@ follow-requires c = λ is.
 pub returns-clause-entered : goal.returns-clause-entered
 returns-clause-entered c = λ w place h.
     some_row_now (kept_in c.args.self.now) (kept_in c.follow.new.self) w place c.time-at.result c.args.cause c.time-at.ensures (sym c.may.ensures.now ∙ c.if-not-may.false) h.ties (λ found is.
-        let reserved = subst (λ items. StandsFor (record (kept_in c.args.self.now) { up = sends items }) w) (sym c.in_default.ensures.items) h in
-        let made = c.in_ok-cause.ensures.noted w place found reserved is in
-        let pushed =
-            pushed_ties (kept_in c.note.new.self) (items_in c.note.new.self.up) (items_in c.push.new.self) c.into_vec.result.items c.args.cause w place c.time-at.result found refl c.push.ensures (c.into_vec.ensures ∙ made.0) made.1
-        in
-        subst (λ cause. Ties (kept_in c.follow.new.self) (followed dev usual cause (sent dev usual c.args.cause found.effects (noted dev usual place c.time-at.result c.args.cause found.effects w)))) c.in_ok-cause.ensures.cause.1
-        (c.follow.ensures.followed (sent dev usual c.args.cause found.effects (noted dev usual place c.time-at.result c.args.cause found.effects w)) pushed))
+    let reserved = subst (λ items. StandsFor (record (kept_in c.args.self.now) { up = sends items }) w) (sym c.in_default.ensures.items) h in
+    let made = c.in_ok-cause.ensures.noted w place found reserved is in
+    let pushed =
+    pushed_ties (kept_in c.note.new.self) (items_in c.note.new.self.up) (items_in c.push.new.self) c.into_vec.result.items c.args.cause w place c.time-at.result found refl c.push.ensures (c.into_vec.ensures ∙ made.0) made.1
+    in
+    subst (λ cause. Ties (kept_in c.follow.new.self) (followed dev usual cause (sent dev usual c.args.cause found.effects (noted dev usual place c.time-at.result c.args.cause found.effects w)))) c.in_ok-cause.ensures.cause.1
+    (c.follow.ensures.followed (sent dev usual c.args.cause found.effects (noted dev usual place c.time-at.result c.args.cause found.effects w)) pushed))
