@@ -6,9 +6,11 @@ use Rattle.command_answers.specs.Sources.{EndsBySource, source_now}
 use Rattle.command_answers.proofs.Sourced.{nothing, no_memory}
 use Rattle.command_words.specs.declared.words.RunWords.{RunWords}
 use Rattle.command_words.specs.declared.words.Words.{Words}
-use Rattle.command_words.specs.declared.words.Words.TheVariants.{Replay}
+use Rattle.command_words.specs.declared.words.Words.TheVariants.{Replay, World}
+use Rattle.command_words.specs.declared.words.WorldWords.{WorldWords}
 use Rattle.replay_run.specs.Commands.{source_answer}
 use Rattle.replay_run.specs.Headline.{HasRun, PrintsReplay}
+use Rattle.world_run.specs.Answers.{world_answer}
 
 replay_same : (a b : RunWords) → Replay a ≡ Replay b → a ≡ b
 replay_same a b e = cc
@@ -31,6 +33,43 @@ other_ends command status a b m n old new f g other w e = absurd (subst IsNotBui
 
 pub other_prints : (command : Words) (status : ℕ) (told old new : Option (List ℕ)) → IsNotBuilt command → (w : RunWords) → command ≡ Replay w → HasRun status → PrintsReplay w told status old new
 other_prints command status told old new other w e ran = absurd (subst IsNotBuilt e other)
+
+-- ---- A world
+
+world_same : (a b : WorldWords) → World a ≡ World b → a ≡ b
+world_same a b e = cc
+
+pub world_is : (command : Words) (words : WorldWords) (status : ℕ) (old new : Option (List ℕ)) (f g : ℕ) → command ≡ World words → Ends status (sink_now old f) (sink_now new g) (world_answer words)
+    → (w : WorldWords) → command ≡ World w → Ends status (sink_now old f) (sink_now new g) (world_answer w)
+world_is command words status old new f g is h w e = subst (λ (v : WorldWords). Ends status (sink_now old f) (sink_now new g) (world_answer v)) (world_same words w (sym is ∙ e)) h
+
+no_replay : (words : WorldWords) (w : RunWords) → World words ≡ Replay w → ⊥
+no_replay words w e = absurd (cc e)
+
+pub world_ends : (command : Words) (words : WorldWords) (status : ℕ) (a b : Option (List ℕ)) (m n : ℕ) (old new : Option (List ℕ)) (f g : ℕ) → command ≡ World words
+    → (w : RunWords) → command ≡ Replay w → EndsBySource status (source_now a m) (source_now b n) (sink_now old f) (sink_now new g) (source_answer w)
+world_ends command words status a b m n old new f g is w e = absurd (no_replay words w (sym is ∙ e))
+
+pub world_prints : (command : Words) (words : WorldWords) (status : ℕ) (told old new : Option (List ℕ)) → command ≡ World words → (w : RunWords) → command ≡ Replay w → HasRun status → PrintsReplay w told status old new
+world_prints command words status told old new is w e ran = absurd (no_replay words w (sym is ∙ e))
+
+pub replay_no_world : (command : Words) (words : RunWords) (status : ℕ) (old new : Option (List ℕ)) (f g : ℕ) → command ≡ Replay words
+    → (w : WorldWords) → command ≡ World w → Ends status (sink_now old f) (sink_now new g) (world_answer w)
+replay_no_world command words status old new f g is w e = absurd (no_replay w words (sym e ∙ is))
+
+pub other_no_world : (command : Words) (status : ℕ) (old new : Option (List ℕ)) (f g : ℕ) → IsNotBuilt command → (w : WorldWords) → command ≡ World w → Ends status (sink_now old f) (sink_now new g) (world_answer w)
+other_no_world command status old new f g other w e = absurd (subst IsNotBuilt e other)
+
+pub world_picked : (read : Option Words) (command : Words) (status : ℕ) (old new : Option (List ℕ)) (f g : ℕ) → read ≡ Some command
+    → ((w : WorldWords) → command ≡ World w → Ends status (sink_now old f) (sink_now new g) (world_answer w))
+    → (w : WorldWords) → read ≡ Some (World w) → Ends status (sink_now old f) (sink_now new g) (world_answer w)
+world_picked read command status old new f g is h w e = h w (some_words command (World w) (sym is ∙ e))
+
+pub none_world : (read : Option Words) (status : ℕ) (old new : Option (List ℕ)) (f g : ℕ) → read ≡ None → (w : WorldWords) → read ≡ Some (World w) → Ends status (sink_now old f) (sink_now new g) (world_answer w)
+none_world read status old new f g none w e = absurd (cc (none, e))
+
+pub unread_world : (read : Option Words) (old : Option (List ℕ)) (f : ℕ) (w : WorldWords) → read ≡ Some (World w) → Ends 7 (sink_now old f) (sink_now old f) (world_answer w)
+unread_world read old f w e = nothing (sink_now old f) (world_answer w)
 
 -- ---- Of words that spell one
 

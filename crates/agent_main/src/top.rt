@@ -8,19 +8,22 @@ ghost use Rattle.command_answers.specs.Sources.{EndsBySource, source_now};
 ghost use Rattle.command_words.specs.Commands.{words_of};
 ghost use Rattle.command_words.specs.Ranges.{AreInRange};
 ghost use Rattle.command_words.specs.declared.words.RunWords.{RunWords};
-ghost use Rattle.command_words.specs.declared.words.Words.TheVariants.{Replay};
+ghost use Rattle.command_words.specs.declared.words.Words.TheVariants.{Replay, World};
+ghost use Rattle.command_words.specs.declared.words.WorldWords.{WorldWords};
 ghost use Rattle.replay_run.specs.Commands.{source_answer};
 ghost use Rattle.replay_run.specs.Headline.{HasRun, PrintsReplay};
+ghost use Rattle.world_run.specs.Answers.{world_answer};
 
 use agent_link::{Sink, Source};
 use command_answers::finish;
 use command_words::{Words, WordsFault, read_words};
 use replay_run::replay_command;
 use std::alloc::Global;
+use world_run::world_call;
 
 /// Runs the command that the words spell, and answers its exit status: that of the command, 1 where the words have no reading,
 /// and 13 where the command isn't built yet.
-#[tactic(auto, using(crate::proofs::Picked::replay_picked, crate::proofs::Picked::history_picked, crate::proofs::Picked::other_picked, crate::proofs::Picked::none_ends, crate::proofs::Picked::none_prints, crate::proofs::Picked::none_picked, crate::proofs::Picked::unread_ends, crate::proofs::Picked::unread_prints, crate::proofs::Picked::unread_picked, command_answers::proofs::Sourced::nothing))]
+#[tactic(auto, using(crate::proofs::Picked::replay_picked, crate::proofs::Picked::history_picked, crate::proofs::Picked::other_picked, crate::proofs::Picked::none_ends, crate::proofs::Picked::none_prints, crate::proofs::Picked::none_picked, crate::proofs::Picked::unread_ends, crate::proofs::Picked::unread_prints, crate::proofs::Picked::unread_picked, crate::proofs::Picked::world_picked, crate::proofs::Picked::none_world, crate::proofs::Picked::unread_world, command_answers::proofs::Sourced::nothing))]
 pub fn top<S: Source, O: Sink>(alloc: Global, words: &[&str], script: &mut S, out: &mut O) -> u8
     // Words without a reading, whatever the source is.
     ensures no_reading { words_of (map (λ word. word.now) words.now) ≡ None → Ends result
@@ -39,6 +42,10 @@ pub fn top<S: Source, O: Sink>(alloc: Global, words: &[&str], script: &mut S, ou
     // Where its agent ran, what is written is one legal history of it.
     ensures replay_history { (w : RunWords) → words_of (map (λ word. word.now) words.now) ≡ Some (Replay w) → HasRun result →
         PrintsReplay w (S.left script.old) result (O.written out.old) (O.written out.new) }
+    // A world: what is written is what the seed's events come to.
+    ensures world { (w : WorldWords) → words_of (map (λ word. word.now) words.now) ≡ Some (World w) → Ends result
+        (sink_now (O.written out.old) (O.faults out.old))
+        (sink_now (O.written out.new) (O.faults out.new)) (world_answer w) }
     ensures words { result ≡ 1 → words_of (map (λ word. word.now) words.now) ≡ None }
     ensures source_fault { result ≡ 9 → S.faults script.new ≡ raised (S.faults script.old) }
 {
@@ -50,7 +57,7 @@ pub fn top<S: Source, O: Sink>(alloc: Global, words: &[&str], script: &mut S, ou
 }
 
 /// Runs a command.
-#[tactic(auto, using(crate::proofs::Picked::replay_is, crate::proofs::Picked::history_is, crate::proofs::Picked::other_ends, crate::proofs::Picked::other_prints))]
+#[tactic(auto, using(crate::proofs::Picked::replay_is, crate::proofs::Picked::history_is, crate::proofs::Picked::other_ends, crate::proofs::Picked::other_prints, crate::proofs::Picked::world_is, crate::proofs::Picked::world_ends, crate::proofs::Picked::world_prints, crate::proofs::Picked::replay_no_world, crate::proofs::Picked::other_no_world))]
 fn run_command<S: Source, O: Sink>(alloc: Global, words: &Words, script: &mut S, out: &mut O) -> u8
     requires { AreInRange words.now }
     ensures not_built { IsNotBuilt words.now → Ends result
@@ -63,6 +70,9 @@ fn run_command<S: Source, O: Sink>(alloc: Global, words: &Words, script: &mut S,
         (sink_now (O.written out.new) (O.faults out.new)) (source_answer w) }
     ensures replay_history { (w : RunWords) → words.now ≡ Replay w → HasRun result →
         PrintsReplay w (S.left script.old) result (O.written out.old) (O.written out.new) }
+    ensures world { (w : WorldWords) → words.now ≡ World w → Ends result
+        (sink_now (O.written out.old) (O.faults out.old))
+        (sink_now (O.written out.new) (O.faults out.new)) (world_answer w) }
     ensures no_words { result ≢ 1 }
     ensures source_fault { result ≡ 9 → S.faults script.new ≡ raised (S.faults script.old) }
 {
@@ -71,6 +81,6 @@ fn run_command<S: Source, O: Sink>(alloc: Global, words: &Words, script: &mut S,
         Words::Share(_) => finish(out, b"fault not built\n", 13),
         Words::Fetch(_) => finish(out, b"fault not built\n", 13),
         Words::Broker(_) => finish(out, b"fault not built\n", 13),
-        Words::World(_) => finish(out, b"fault not built\n", 13),
+        Words::World(words) => world_call(alloc, words, out),
     }
 }

@@ -1,0 +1,10 @@
+pub mod Drawing
+pub mod Events
+pub mod Examples
+pub mod Falling
+pub mod Following
+pub mod Passing
+pub mod Risen
+pub mod Rows
+pub mod Steady
+pub mod Tying

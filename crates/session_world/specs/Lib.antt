@@ -1,0 +1,12 @@
+pub mod Counts
+pub mod Generating
+pub mod Kept
+pub mod Laws
+pub mod Noted
+pub mod Playing
+pub mod Queued
+pub mod Ready
+pub mod Setups
+pub mod Viewed
+pub mod Worked
+pub mod World
