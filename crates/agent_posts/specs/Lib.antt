@@ -1,3 +1,0 @@
-pub mod Waiting
-pub mod Mail
-pub mod Owed
