@@ -106,7 +106,7 @@ fn program<'a>(alloc: Global) -> Result<Command<'a>, AllocError> {
         .subcommand(named(
             alloc,
             "world",
-            "Play agents and a broker over lossy channels (not built yet)",
+            "Play an agent and a broker over channels that lose packets",
         ))
 }
 
