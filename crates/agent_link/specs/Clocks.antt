@@ -1,5 +1,5 @@
 -- The readings of a clock.
-use Rattle.std.specs.Prelude.{◌≡◌, ℕ, zero, suc, ◌+◌, ◌-◌, ◌*◌, ◌^◌, ◌≤◌, min, nat_lt, List, [], ◌∷◌, ◌++◌, length, Option, Some, None, ⊥, if◌then◌else◌}
+use Rattle.std.specs.Prelude.{◌≡◌, ℕ, zero, suc, ◌+◌, ◌-◌, ◌*◌, ◌^◌, ◌≤◌, min, nat_lt, List, [], ◌∷◌, ◌++◌, length, Option, Some, None, if◌then◌else◌}
 
 -- The reading was added to those that the clock tells. It may stop telling them for good, but not within 2^64 readings.
 abbrev pub AddsReading : Option (List ℕ) → Option (List ℕ) → ℕ → Type 0
