@@ -200,3 +200,6 @@ crash_agrees pick i [] s = refl
 crash_agrees pick i (m ∷ ms) [] = refl
 crash_agrees pick i (true ∷ ms) (x ∷ s) = two refl (crash_agrees pick (suc i) ms s)
 crash_agrees pick i (false ∷ ms) (x ∷ s) = two refl (crash_agrees pick (suc i) ms s)
+
+pub crash_len : (pick : ℕ) (ms : List Bool) (s : List ℕ) → length (crashed pick 0 ms s) ≡ length s
+crash_len pick ms s = image_len ms s (crashed pick 0 ms s) (crash_agrees pick 0 ms s)

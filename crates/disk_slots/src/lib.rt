@@ -1,6 +1,8 @@
 //! A disk, and a file of two slots on it that holds a text whatever fails. It knows bytes alone.
 #![tactic(auto)]
 
+mod bytes;
+mod crash;
 mod disk;
 mod faults;
 mod file;

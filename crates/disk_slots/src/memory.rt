@@ -4,6 +4,8 @@ ghost use Rattle.std.specs.Prelude.{◌≡◌, ◌+◌, ◌≤◌, ◌<◌, ◌^
 ghost use Rattle.disk_slots.specs.Disks.{overwritten, faults_after, Only, Same, Widens, Torn};
 ghost use Rattle.disk_slots.specs.Memory.{Agrees, filled, picked, crashed, burnt};
 
+use crate::bytes::put;
+use crate::crash::pick_all;
 use crate::disk::{Broken, Disk};
 use std::alloc::{AllocError, Global};
 
@@ -58,14 +60,44 @@ impl MemoryDisk {
     {
         self.fuse = Some(calls);
     }
+
+    /// The disk after a crash, with this fuse. Each byte i that was written since the last sync is as
+    /// it was then where `pick` is even, and else `(pick / 2 + i) % 256`.
+    pub fn crash(self, pick: u64, fuse: Option<u64>) -> MemoryDisk
+        ensures image { ⟦<MemoryDisk as Disk>⟧.seen result ≡ crashed pick 0 self.marks.items self.settled.items }
+        ensures one { ⟦<MemoryDisk as Disk>⟧.may_leave self (⟦<MemoryDisk as Disk>⟧.seen result) }
+        ensures only { Only (⟦<MemoryDisk as Disk>⟧.seen result) (⟦<MemoryDisk as Disk>⟧.may_leave result) }
+        ensures fuse { (result.fuse ≡ fuse) × (result.faults ≡ self.faults) }
+    {
+        let MemoryDisk {
+            mut settled,
+            mut present,
+            mut marks,
+            from,
+            to,
+            fuse: _,
+            faults,
+        } = self;
+        pick_all(&mut settled, &marks, pick);
+        copy(&mut present, &settled);
+        unmark(&mut marks, from, to);
+        MemoryDisk {
+            settled,
+            present,
+            marks,
+            from: 0,
+            to: 0,
+            fuse,
+            faults,
+        }
+    }
 }
 
-fn put(bytes: &mut Vec<u8>, at: usize, more: &[u8])
-    requires { at + length more.now ≤ length bytes.old.items }
-    ensures { bytes.new.items ≡ overwritten at more.now bytes.old.items }
+fn copy(to: &mut Vec<u8>, from: &Vec<u8>)
+    requires { length to.old.items ≡ length from.now.items }
+    ensures { to.new.items ≡ from.now.items }
 {
-    let end = at + more.len();
-    bytes[at..end].copy_from_slice(more);
+    to.copy_from_slice(from);
 }
 
 fn set_marks(marks: &mut Vec<bool>, at: usize, n: usize, mark: bool)

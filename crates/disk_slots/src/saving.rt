@@ -17,8 +17,9 @@ pub fn switch<D: Disk>(disk: &mut D, slot_len: u64, counts: Slot, frame: &[u8]) 
     ensures size { D.size_of disk.new ≡ D.size_of disk.old }
     ensures cause { D.faults disk.new ≡ faults_after result (D.faults disk.old) }
 {
-    stage(disk, slot_len, counts.other(), frame)?;
-    turn(disk, slot_len, counts.other())
+    let to = counts.other();
+    stage(disk, slot_len, to, frame)?;
+    turn(disk, slot_len, to)
 }
 
 /// Writes a frame into a slot that doesn't count, and syncs.

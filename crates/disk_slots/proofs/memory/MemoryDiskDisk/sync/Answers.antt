@@ -12,4 +12,4 @@ settle-requires-clause-outside c =
     )
 
 pub returns-clause-durable : goal.returns-clause-durable
-returns-clause-durable c _ = only_settled (length c.args.self.now.marks.items) _ _ _ c.unmark.ensures c.settle.ensures
+returns-clause-durable c = only_settled (length c.args.self.now.marks.items) _ _ _ c.unmark.ensures c.settle.ensures

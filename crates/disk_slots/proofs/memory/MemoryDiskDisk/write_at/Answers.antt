@@ -2,13 +2,13 @@ use Rattle.std.proofs.Common.{◌≡◌, ◌∙◌, ◌+◌, ◌≤◌, length, 
 use Rattle.disk_slots.proofs.Marks.{widens, refused_agrees, written_agrees, front_clear, back_clear, filled_len, clear_outside, overwritten_len}
 use Rattle.disk_slots.proofs.memory.MemoryDiskDisk.write_at.Goals as goal
 
-pub returns-in_err-pass-clause-crash : goal.returns-in_err-pass-clause-crash
-returns-in_err-pass-clause-crash c _ =
+pub returns-in_err-burn-clause-crash : goal.returns-in_err-burn-clause-crash
+returns-in_err-burn-clause-crash c =
     let s = c.args.self.now in
     widens c.args.at (length c.args.bytes.now) s.marks.items _ s.settled.items (omega (arith, c.requires, s.alike.1)) (s.alike.0 ∙ sym s.alike.1) c.set_marks.ensures
 
 pub returns-clause-crash : goal.returns-clause-crash
-returns-clause-crash c _ =
+returns-clause-crash c =
     let s = c.args.self.now in
     widens c.args.at (length c.args.bytes.now) s.marks.items _ s.settled.items (omega (arith, c.requires, s.alike.1)) (s.alike.0 ∙ sym s.alike.1) c.set_marks.ensures
 
