@@ -7,7 +7,7 @@ ghost use Rattle.disk_slots.specs.Files.{InAnyEnd, OnTooLong, OnNoMemory, Opened
 
 use crate::disk::{Broken, Disk};
 use crate::faults::{OpenFault, SaveFault};
-use crate::frame::put_text;
+use crate::frame::{put_text, text_len};
 use crate::opening::{load, write_both};
 use crate::saving::switch;
 use crate::slot::Slot;
@@ -68,6 +68,37 @@ impl<D: Disk + Drop> SlotFile<D> {
                 len: text.len(),
             }),
             Err(Broken) => Err(OpenFault::Disk(disk)),
+        }
+    }
+
+    /// The file that stands on a disk, of slots with `slot_len` bytes each. It begins with a sync, so
+    /// that a crash leaves the text that was read.
+    pub fn open(alloc: Global, disk: D, slot_len: u64) -> Result<SlotFile<D>, OpenFault<D>>
+        requires size { (4 ≤ slot_len) × (slot_len < 2 ^ 32) × (D.size_of disk ≡ file_len slot_len) }
+        ensures text { IfOk result (λ file. D.tells → counting slot_len (D.seen disk) ≡ Some file.text) }
+        ensures slots { IfOk result (λ file. file.slot_len ≡ slot_len) }
+        ensures kept { IfOk result (λ file. D.tells → Holds slot_len file.text (D.may_leave file.disk)) }
+        ensures too_long { OnTooLong result (λ _. D.tells → counting slot_len (D.seen disk) ≡ None) }
+        ensures no_memory { OnNoMemory result (λ disk'. disk' ≡ disk) }
+        ensures images { InAnyEnd result (λ disk'. D.tells → NoMore (D.may_leave disk) (D.may_leave disk')) }
+        ensures size { InAnyEnd result (λ disk'. D.size_of disk' ≡ D.size_of disk) }
+        ensures cause { Opened D.faults (D.faults disk) result }
+    {
+        let Ok(mut frame) = Vec::from_elem(alloc, 0, slot_len as usize) else {
+            return Err(OpenFault::NoMemory(disk));
+        };
+        let mut disk = disk;
+        let Ok(counts) = load(&mut disk, slot_len, frame.as_mut_slice()) else {
+            return Err(OpenFault::Disk(disk));
+        };
+        match text_len(frame.as_slice()) {
+            Some(len) => Ok(SlotFile {
+                disk,
+                counts,
+                frame,
+                len,
+            }),
+            None => Err(OpenFault::TooLong(disk)),
         }
     }
 
