@@ -1,13 +1,14 @@
 //! A file of two slots on a disk of its own.
 
-ghost use Rattle.std.specs.Prelude.{◌≡◌, ◌≤◌, ◌<◌, ◌-◌, ◌^◌, ◌+◌, ◌↔◌, length, Some, None, IfOk, IsOk};
-ghost use Rattle.disk_slots.specs.Disks.{NoMore};
+ghost use Rattle.std.specs.Prelude.{◌≡◌, ◌≤◌, ◌<◌, ◌-◌, ◌^◌, ◌+◌, length, Some, None, IfOk};
+ghost use Rattle.disk_slots.specs.Disks.{NoMore, Same};
 ghost use Rattle.disk_slots.specs.Slots.{Holds, HoldsOneOf, counting, file_len};
 ghost use Rattle.disk_slots.specs.Files.{InAnyEnd, OnTooLong, OnNoMemory, Opened, OnBroken, OnRefused, Saved};
 
 use crate::disk::{Broken, Disk};
 use crate::faults::{OpenFault, SaveFault};
 use crate::frame::{put_text, text_len};
+use crate::memory::MemoryDisk;
 use crate::opening::{load, write_both};
 use crate::saving::switch;
 use crate::slot::Slot;
@@ -110,6 +111,7 @@ impl<D: Disk + Drop> SlotFile<D> {
         ensures kept { OnBroken result (λ disk. D.tells → HoldsOneOf self.slot_len self.text text.now (D.may_leave disk)) }
         ensures fits { IfOk result (λ _. 4 + length text.now ≤ self.slot_len) }
         ensures too_long { OnRefused result (λ file. (file ≡ self) × (self.slot_len < 4 + length text.now)) }
+        ensures size { OnBroken result (λ disk. D.size_of disk ≡ file_len self.slot_len) }
         ensures cause { Saved D.faults (D.faults self.disk) result }
     {
         if text.len() > self.frame.len() - 4 {
@@ -148,9 +150,23 @@ impl<D: Disk + Drop> SlotFile<D> {
         self.frame.len() - 4
     }
 
+    /// Its disk, which may be opened again.
     pub fn into_disk(self) -> D
-        ensures { result ≡ self.disk }
+        ensures disk { result ≡ self.disk }
+        ensures size { D.size_of result ≡ file_len self.slot_len }
     {
         self.disk
+    }
+}
+
+impl SlotFile<MemoryDisk> {
+    /// From now on its disk passes so many writes and syncs, and then fails every call.
+    pub fn arm(&mut self, calls: u64)
+        ensures text { (self.new.text ≡ self.old.text) × (self.new.slot_len ≡ self.old.slot_len) }
+        ensures fuse { (self.new.disk.fuse ≡ Some calls) × (self.new.disk.faults ≡ self.old.disk.faults) }
+        ensures seen { ⟦<MemoryDisk as Disk>⟧.seen self.new.disk ≡ ⟦<MemoryDisk as Disk>⟧.seen self.old.disk }
+        ensures crash { Same (⟦<MemoryDisk as Disk>⟧.may_leave self.old.disk) (⟦<MemoryDisk as Disk>⟧.may_leave self.new.disk) }
+    {
+        self.disk.arm(calls);
     }
 }

@@ -37,6 +37,7 @@ impl MemoryDisk {
         requires { size < 2 ^ 32 }
         ensures seen { IfOk result (λ d. ⟦<MemoryDisk as Disk>⟧.seen d ≡ replicate size 0) }
         ensures only { IfOk result (λ d. Only (replicate size 0) (⟦<MemoryDisk as Disk>⟧.may_leave d)) }
+        ensures size { IfOk result (λ d. ⟦<MemoryDisk as Disk>⟧.size_of d ≡ size) }
         ensures fuse { IfOk result (λ d. (d.fuse ≡ fuse) × (d.faults ≡ 0)) }
     {
         let size = size as usize;
@@ -67,6 +68,7 @@ impl MemoryDisk {
         ensures image { ⟦<MemoryDisk as Disk>⟧.seen result ≡ crashed pick 0 self.marks.items self.settled.items }
         ensures one { ⟦<MemoryDisk as Disk>⟧.may_leave self (⟦<MemoryDisk as Disk>⟧.seen result) }
         ensures only { Only (⟦<MemoryDisk as Disk>⟧.seen result) (⟦<MemoryDisk as Disk>⟧.may_leave result) }
+        ensures size { ⟦<MemoryDisk as Disk>⟧.size_of result ≡ ⟦<MemoryDisk as Disk>⟧.size_of self }
         ensures fuse { (result.fuse ≡ fuse) × (result.faults ≡ self.faults) }
     {
         let MemoryDisk {
