@@ -65,13 +65,19 @@ forth zero (suc n) (m ∷ ms) (x ∷ s) [] c le long alike e torn = absurd (omeg
 forth zero (suc n) (m ∷ ms) (x ∷ s) (z ∷ d) [] le long alike e torn = absurd (omega (arith, torn.len))
 forth zero (suc n) (m ∷ ms) (x ∷ s) (z ∷ d) (y ∷ c) le long alike e torn =
     two refl (forth zero n ms s d c (omega (arith, le)) (omega (arith, long)) (omega (arith, alike)) (tail e) (record {
-      len = omega (arith, torn.len); before = refl; after = sym (cut (0 + suc n) (0 + n) y c (omega arith)) ∙ torn.after ∙ cut (0 + suc n) (0 + n) z d (omega arith) }))
+      len = omega (arith, torn.len);
+      before = refl;
+      after = sym (cut (0 + suc n) (0 + n) y c (omega arith)) ∙ torn.after ∙ cut (0 + suc n) (0 + n) z d (omega arith);
+    }))
 forth (suc at) n (m ∷ ms) [] d c le long alike e torn = absurd (omega (arith, long))
 forth (suc at) n (m ∷ ms) (x ∷ s) [] c le long alike e torn = absurd (omega (arith, alike))
 forth (suc at) n (m ∷ ms) (x ∷ s) (z ∷ d) [] le long alike e torn = absurd (omega (arith, torn.len))
 forth (suc at) n (m ∷ ms) (x ∷ s) (z ∷ d) (y ∷ c) le long alike e torn =
     two (ap (λ b. cond m 0 b) (head torn.before) ∙ head e) (forth at n ms s d c (omega (arith, le)) (omega (arith, long)) (omega (arith, alike)) (tail e) (record {
-      len = omega (arith, torn.len); before = tail torn.before; after = sym (cut (suc at + n) (at + n) y c (omega arith)) ∙ torn.after ∙ cut (suc at + n) (at + n) z d (omega arith) }))
+      len = omega (arith, torn.len);
+      before = tail torn.before;
+      after = sym (cut (suc at + n) (at + n) y c (omega arith)) ∙ torn.after ∙ cut (suc at + n) (at + n) z d (omega arith);
+    }))
 
 -- a disk all of whose bytes are settled
 pub masked_none : (n : ℕ) (xs : List ℕ) → masked (replicate n false) xs ≡ xs

@@ -20,8 +20,8 @@ turned n to old new file was now only has_old has_new crash c left =
     let d = (crash c).0 left in
     let torn : Torn 0 1 file c = subst (λ (f : List ℕ). Torn 0 1 f c) ((only d.0).0 d.1) d.2 in
     ⊎_elim (λ (e : named_in c ≡ to). inr (counted_as n to new c (e, ap (text_in n) (slots_kept n to c file torn) ∙ has_new)))
-        (λ (e : named_in c ≡ other to). inl (counted_as n (other to) old c (e, ap (text_in n) (slots_kept n (other to) c file torn) ∙ has_old)))
-        (named_or_other to (slice_index c 0))
+    (λ (e : named_in c ≡ other to). inl (counted_as n (other to) old c (e, ap (text_in n) (slots_kept n (other to) c file torn) ∙ has_old)))
+    (named_or_other to (slice_index c 0))
 
 -- and behind the last sync
 pub saved_at : (n : ℕ) (to : Slot) (gate : ℕ) (text file new : List ℕ) (now : List ℕ → Type 0) → gate ≡ gate_of to → HasText n to text file → new ≡ overwritten 0 (gate ∷ []) file → Only new now → AllCount n to text now

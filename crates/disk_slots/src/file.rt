@@ -7,9 +7,10 @@ ghost use Rattle.disk_slots.specs.Files.{InAnyEnd, OnTooLong, OnNoMemory, Opened
 
 use crate::disk::{Broken, Disk};
 use crate::faults::{OpenFault, SaveFault};
+use crate::formatting::write_both;
 use crate::frame::{put_text, text_len};
 use crate::memory::MemoryDisk;
-use crate::opening::{load, write_both};
+use crate::opening::load;
 use crate::saving::switch;
 use crate::slot::Slot;
 use std::alloc::Global;
@@ -43,7 +44,12 @@ impl<D: Disk + Drop> Model for SlotFile<D> {
 
 impl<D: Disk + Drop> SlotFile<D> {
     /// A file whose slots have `slot_len` bytes each, and which holds a text.
-    pub fn format(alloc: Global, disk: D, slot_len: u64, text: &[u8]) -> Result<SlotFile<D>, OpenFault<D>>
+    pub fn format(
+        alloc: Global,
+        disk: D,
+        slot_len: u64,
+        text: &[u8],
+    ) -> Result<SlotFile<D>, OpenFault<D>>
         requires size { (4 ≤ slot_len) × (slot_len < 2 ^ 32) × (D.size_of disk ≡ file_len slot_len) }
         ensures text { IfOk result (λ file. (file.text ≡ text.now) × (file.slot_len ≡ slot_len)) }
         ensures kept { IfOk result (λ file. D.tells → Holds slot_len text.now (D.may_leave file.disk)) }
@@ -124,7 +130,12 @@ impl<D: Disk + Drop> SlotFile<D> {
             len: _,
         } = self;
         put_text(&mut frame, text);
-        match switch(&mut disk, frame.len() as u64, counts, &frame[..4 + text.len()]) {
+        match switch(
+            &mut disk,
+            frame.len() as u64,
+            counts,
+            &frame[..4 + text.len()],
+        ) {
             Ok(()) => Ok(SlotFile {
                 disk,
                 counts: counts.other(),

@@ -6,6 +6,7 @@ mod crash;
 mod disk;
 mod faults;
 mod file;
+mod formatting;
 mod frame;
 mod memory;
 mod opening;

@@ -1,26 +1,11 @@
-//! Making a file, and reading the slot that counts.
+//! Reading the slot that counts.
 
-ghost use Rattle.std.specs.Prelude.{◌≡◌, ◌<◌, ◌^◌, List, ℕ, length, OnOk, IfOk};
-ghost use Rattle.disk_slots.specs.Disks.{Only, NoMore, Same, faults_after};
-ghost use Rattle.disk_slots.specs.Slots.{IsFramed, AllCount, framed_text, file_len, named_in, text_in, bytes_of, counting};
-ghost use Rattle.disk_slots.specs.declared.slot.Slot.TheVariants.{First};
+ghost use Rattle.std.specs.Prelude.{◌≡◌, ◌<◌, ◌^◌, List, ℕ, length, IfOk};
+ghost use Rattle.disk_slots.specs.Disks.{NoMore, Same, faults_after};
+ghost use Rattle.disk_slots.specs.Slots.{file_len, named_in, text_in, bytes_of, counting};
 
 use crate::disk::{Broken, Disk};
 use crate::slot::Slot;
-
-/// Writes a frame into both slots, and makes the first one count.
-pub fn write_both<D: Disk>(disk: &mut D, slot_len: u64, frame: &[u8]) -> Result<(), Broken>
-    requires slots { (slot_len < 2 ^ 32) × (D.size_of disk.old ≡ file_len slot_len) }
-    requires framed { IsFramed slot_len frame.now }
-    ensures saved { D.tells → OnOk result (AllCount slot_len First (framed_text frame.now) (D.may_leave disk.new)) }
-    ensures size { D.size_of disk.new ≡ D.size_of disk.old }
-    ensures cause { D.faults disk.new ≡ faults_after result (D.faults disk.old) }
-{
-    disk.write_at(1, frame)?;
-    disk.write_at(1 + slot_len, frame)?;
-    disk.write_at(0, &[0])?;
-    disk.sync()
-}
 
 /// Reads the slot that counts into `bytes`, and answers which it is. It begins with a sync, so that a
 /// crash leaves what was read.

@@ -9,7 +9,12 @@ use crate::disk::{Broken, Disk};
 use crate::slot::Slot;
 
 /// Writes a frame into the slot that doesn't count, and then makes it count: four calls of the disk.
-pub fn switch<D: Disk>(disk: &mut D, slot_len: u64, counts: Slot, frame: &[u8]) -> Result<(), Broken>
+pub fn switch<D: Disk>(
+    disk: &mut D,
+    slot_len: u64,
+    counts: Slot,
+    frame: &[u8],
+) -> Result<(), Broken>
     requires slots { (slot_len < 2 ^ 32) × (D.size_of disk.old ≡ file_len slot_len) }
     requires framed { IsFramed slot_len frame.now }
     ensures kept { D.tells → (old : List ℕ) → AllCount slot_len counts old (D.may_leave disk.old) → HoldsOneOf slot_len old (framed_text frame.now) (D.may_leave disk.new) }

@@ -66,7 +66,9 @@ fn saves_go_back_and_forth_and_a_longer_text_is_refused(rt: HostRuntime) -> Resu
     };
     assert_eq!(rt; file.text(), b"12345678".as_slice());
     let file = file.save(b"a").ok().ok_or("not saved")?;
-    let file = SlotFile::open(alloc, file.into_disk(), SLOT).ok().ok_or("not opened")?;
+    let file = SlotFile::open(alloc, file.into_disk(), SLOT)
+        .ok()
+        .ok_or("not opened")?;
     assert_eq!(rt; file.text(), b"a".as_slice());
     Ok(())
 }

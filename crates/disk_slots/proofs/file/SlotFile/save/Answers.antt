@@ -13,7 +13,7 @@ invariant_of-result g c =
       omega (arith, slots, inv.1),
       c.switch.ensures.size ∙ inv.2 ∙ ap file_len (sym slots),
       λ t. all_count _ _ _ _ _ _ _ new_slots (sym c.other.ensures) (same ∙ text_of (length c.args.text.now) c.put_text.new.frame.items)
-      (c.in-Ok.ensures.saved t _ (all_count _ _ _ _ _ _ _ (sym (new_slots ∙ slots)) refl refl (inv.3 t))),
+          (c.in-Ok.ensures.saved t _ (all_count _ _ _ _ _ _ _ (sym (new_slots ∙ slots)) refl refl (inv.3 t))),
     )
 
 pub returns-in-Ok-clause-saved : goal.returns-in-Ok-clause-saved

@@ -40,4 +40,3 @@ invariant_of-self-2 c =
       range = (omega (arith, c.lower-self.ensures, c.higher-self.ensures, s.range.0), omega (arith, c.higher-self.ensures, long, within, s.range.1));
       outside = clear_outside s.from s.to c.args.at n c.lower-self.result c.higher-self.result s.marks.items _ (omega (arith, c.lower-self.ensures)) (omega (arith, c.lower-self.ensures)) (omega (arith, c.higher-self.ensures)) (omega (arith, c.higher-self.ensures)) within s.outside.0 s.outside.1 c.set_marks.ensures;
     }
-

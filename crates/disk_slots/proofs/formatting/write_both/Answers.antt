@@ -1,7 +1,7 @@
 use Rattle.std.proofs.Common.{◌∙◌}
 use Rattle.std.proofs.lemmas.Result.{on_ok_weaker}
 use Rattle.disk_slots.proofs.Stages.{formatted}
-use Rattle.disk_slots.proofs.opening.write_both.Goals as goal
+use Rattle.disk_slots.proofs.formatting.write_both.Goals as goal
 
 pub returns-clause-saved : goal.returns-clause-saved
 returns-clause-saved g c t =
