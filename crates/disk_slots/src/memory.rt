@@ -28,7 +28,8 @@ pub struct MemoryDisk {
     ghost alike: { (length settled.items ≡ length present.items) × (length marks.items ≡ length present.items) },
     ghost agrees: { Agrees marks.items settled.items present.items },
     ghost range: { (from ≤ to) × (to ≤ length marks.items) },
-    ghost outside: { (take from marks.items ≡ replicate from false) × (drop to marks.items ≡ replicate (length (drop to marks.items)) false) },
+    ghost outside: { (take from marks.items ≡ replicate from false)
+        × (drop to marks.items ≡ replicate (length (drop to marks.items)) false) },
 }
 
 impl MemoryDisk {
@@ -119,7 +120,8 @@ fn settle(settled: &mut Vec<u8>, present: &Vec<u8>, from: usize, to: usize)
 
 fn unmark(marks: &mut Vec<bool>, from: usize, to: usize)
     requires range { (from ≤ to) × (to ≤ length marks.old.items) }
-    requires outside { (take from marks.old.items ≡ replicate from false) × (drop to marks.old.items ≡ replicate (length (drop to marks.old.items)) false) }
+    requires outside { (take from marks.old.items ≡ replicate from false)
+        × (drop to marks.old.items ≡ replicate (length (drop to marks.old.items)) false) }
     ensures { marks.new.items ≡ replicate (length marks.old.items) false }
 {
     set_marks(marks, from, to - from, false);
@@ -148,7 +150,8 @@ impl Disk for MemoryDisk {
         ensures len { length buf.new ≡ length buf.old }
         ensures bytes { OnOk result (buf.new ≡ take (length buf.old) (drop at self.old.present.items)) }
         ensures seen { self.new.present.items ≡ self.old.present.items }
-        ensures crash { Same (Agrees self.old.marks.items self.old.settled.items) (Agrees self.new.marks.items self.new.settled.items) }
+        ensures crash { Same (Agrees self.old.marks.items self.old.settled.items)
+            (Agrees self.new.marks.items self.new.settled.items) }
         ensures size { length self.new.present.items ≡ length self.old.present.items }
         ensures cause { self.new.faults ≡ faults_after result self.old.faults }
         ensures failed { IsErr result ↔ (self.old.fuse ≡ Some 0) }
@@ -167,7 +170,8 @@ impl Disk for MemoryDisk {
     fn write_at(&mut self, at: u64, bytes: &[u8]) -> Result<(), Broken>
         requires { at + length bytes.now ≤ length self.old.present.items }
         ensures written { OnOk result (self.new.present.items ≡ overwritten at bytes.now self.old.present.items) }
-        ensures crash { Widens (Torn at (length bytes.now)) (Agrees self.old.marks.items self.old.settled.items) (Agrees self.new.marks.items self.new.settled.items) }
+        ensures crash { Widens (Torn at (length bytes.now)) (Agrees self.old.marks.items self.old.settled.items)
+            (Agrees self.new.marks.items self.new.settled.items) }
         ensures size { length self.new.present.items ≡ length self.old.present.items }
         ensures cause { self.new.faults ≡ faults_after result self.old.faults }
         ensures failed { IsErr result ↔ (self.old.fuse ≡ Some 0) }
@@ -185,7 +189,8 @@ impl Disk for MemoryDisk {
     fn sync(&mut self) -> Result<(), Broken>
         ensures durable { OnOk result (Only self.old.present.items (Agrees self.new.marks.items self.new.settled.items)) }
         ensures seen { OnOk result (self.new.present.items ≡ self.old.present.items) }
-        ensures failed { OnErr result (Same (Agrees self.old.marks.items self.old.settled.items) (Agrees self.new.marks.items self.new.settled.items)) }
+        ensures failed { OnErr result (Same (Agrees self.old.marks.items self.old.settled.items)
+            (Agrees self.new.marks.items self.new.settled.items)) }
         ensures size { length self.new.present.items ≡ length self.old.present.items }
         ensures cause { self.new.faults ≡ faults_after result self.old.faults }
         ensures burnt_out { IsErr result ↔ (self.old.fuse ≡ Some 0) }

@@ -12,7 +12,8 @@ use crate::slot::Slot;
 pub fn load<D: Disk>(disk: &mut D, slot_len: u64, bytes: &mut [u8]) -> Result<Slot, Broken>
     requires slots { (slot_len < 2 ^ 32) × (D.size_of disk.old ≡ file_len slot_len) × (length bytes.old ≡ slot_len) }
     ensures read { D.tells → IfOk result (λ slot. counting slot_len (D.seen disk.old) ≡ text_in slot_len bytes.new) }
-    ensures named { D.tells → IfOk result (λ slot. (image : List ℕ) → D.may_leave disk.new image → (named_in image ≡ slot) × (bytes_of slot_len slot image ≡ bytes.new)) }
+    ensures named { D.tells → IfOk result (λ slot. (image : List ℕ) → D.may_leave disk.new image
+        → (named_in image ≡ slot) × (bytes_of slot_len slot image ≡ bytes.new)) }
     ensures images { D.tells → NoMore (D.may_leave disk.old) (D.may_leave disk.new) }
     ensures size { D.size_of disk.new ≡ D.size_of disk.old }
     ensures len { length bytes.new ≡ length bytes.old }

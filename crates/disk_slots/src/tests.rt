@@ -53,23 +53,41 @@ fn a_cut_save_leaves_the_old_text_or_the_new_one(rt: HostRuntime) -> Result<(), 
     Ok(())
 }
 
+fn saved(file: SlotFile<MemoryDisk>, text: &[u8]) -> Option<SlotFile<MemoryDisk>>
+    ensures { IfSome result (λ saved. saved.slot_len ≡ file.slot_len) }
+{
+    file.save(text).ok()
+}
+
+fn refused(file: SlotFile<MemoryDisk>, text: &[u8]) -> Option<SlotFile<MemoryDisk>>
+    ensures { IfSome result (λ same. same.slot_len ≡ file.slot_len) }
+{
+    match file.save(text) {
+        Err(SaveFault::TooLong(same)) => Some(same),
+        _ => None,
+    }
+}
+
+/// A file that was saved twice, with a text of 9 bytes refused between, and opened again.
+fn back_and_forth(alloc: Global) -> Option<SlotFile<MemoryDisk>> {
+    let file = file_with(alloc, b"")?;
+    let file = saved(file, b"12345678")?;
+    let file = refused(file, b"123456789")?;
+    let file = saved(file, b"a")?;
+    SlotFile::open(alloc, file.into_disk(), SLOT).ok()
+}
+
 #[test]
 fn saves_go_back_and_forth_and_a_longer_text_is_refused(rt: HostRuntime) -> Result<(), Fail> {
     let alloc = rt.alloc();
-    let file = file_with(alloc, b"").ok_or("no file")?;
-    assert_eq!(rt; file.text(), b"".as_slice());
-    assert_eq!(rt; file.limit(), 8);
-    let file = file.save(b"12345678").ok().ok_or("not saved")?;
-    let file = match file.save(b"123456789") {
-        Err(SaveFault::TooLong(file)) => file,
-        _ => return Err("saved".into()),
-    };
-    assert_eq!(rt; file.text(), b"12345678".as_slice());
-    let file = file.save(b"a").ok().ok_or("not saved")?;
-    let file = SlotFile::open(alloc, file.into_disk(), SLOT)
-        .ok()
-        .ok_or("not opened")?;
-    assert_eq!(rt; file.text(), b"a".as_slice());
+    let empty = file_with(alloc, b"").ok_or("no file")?;
+    assert_eq!(rt; empty.text(), b"".as_slice());
+    assert_eq!(rt; empty.limit(), 8);
+    let full = saved(empty, b"12345678").ok_or("not saved")?;
+    let same = refused(full, b"123456789").ok_or("saved")?;
+    assert_eq!(rt; same.text(), b"12345678".as_slice());
+    let opened = back_and_forth(alloc).ok_or("not opened")?;
+    assert_eq!(rt; opened.text(), b"a".as_slice());
     Ok(())
 }
 

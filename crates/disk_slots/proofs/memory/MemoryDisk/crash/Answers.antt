@@ -7,12 +7,12 @@ use Rattle.disk_slots.proofs.memory.MemoryDisk.crash.Goals as goal
 pub copy-requires : goal.copy-requires
 copy-requires c =
     let s = c.args.self in
-    sym (ap length c.pick_all.ensures ∙ crash_len c.args.pick s.marks.items s.settled.items ∙ s.alike.0)
+    sym (ap length c.pick_all.ensures ∙ crash_len _ s.marks.items s.settled.items ∙ s.alike.0)
 
 pub invariant_of-result : goal.invariant_of-result
 invariant_of-result c =
     let s = c.args.self in
-    let long = ap length c.copy.ensures ∙ ap length c.pick_all.ensures ∙ crash_len c.args.pick s.marks.items s.settled.items ∙ s.alike.0 in
+    let long = ap length c.copy.ensures ∙ ap length c.pick_all.ensures ∙ crash_len _ s.marks.items s.settled.items ∙ s.alike.0 in
     let clear = ap length c.unmark.ensures ∙ length-replicate (length s.marks.items) false in
     record {
       small = omega (arith, long, s.small);
