@@ -25,7 +25,7 @@ invariant_of-result c =
 pub returns-clause-one : goal.returns-clause-one
 returns-clause-one c =
     let s = c.args.self in
-    subst (λ (l : List ℕ). Agrees s.marks.items s.settled.items l) (sym (c.copy.ensures ∙ c.pick_all.ensures)) (crash_agrees c.args.pick 0 s.marks.items s.settled.items)
+    subst (λ (l : List ℕ). Agrees s.marks.items s.settled.items l) (sym (c.copy.ensures ∙ c.pick_all.ensures)) (crash_agrees _ 0 s.marks.items s.settled.items)
 
 pub returns-clause-only : goal.returns-clause-only
 returns-clause-only c = only_settled (length c.args.self.marks.items) _ _ _ c.unmark.ensures (sym c.copy.ensures)
