@@ -1,6 +1,9 @@
 //! Packets and their bytes, worked out by hand from the standard.
 
-use super::*;
+use mqtt_packet::{
+    Ask, Asks, Blob, Codes, Copied, Filters, Next, NoMemory, PACKET_LIMIT, Packet, Qos, Splitter,
+    Text, TooSmall, Will, encode, spelled_len,
+};
 use std::alloc::Global;
 use std::test::Fail;
 

@@ -1,6 +1,9 @@
 //! Words that the table has, and words that it hasn't, each written from the table.
 
-use super::*;
+use command_words::{
+    BrokerWords, FetchWords, RunWords, Size, Words, WordsFault, WorldWords, explain,
+    options_are_spelled, read_words,
+};
 use list_types::Text;
 use std::alloc::{AllocError, Global};
 use std::test::Fail;
