@@ -1,7 +1,10 @@
 //! Each call against texts that were written out by hand.
 
-use super::*;
 use std::test::Fail;
+use thing_topics::{
+    JobsKind, JobsMatch, NameFault, ShadowKind, ShadowMatch, StreamKind, StreamMatch, TopicFault,
+    jobs_topic, match_jobs, match_shadow, match_stream, shadow_topic, stream_topic,
+};
 
 fn is_shadow_topic(text: &str, name: Option<&str>, kind: ShadowKind) -> bool {
     let parts = ShadowMatch {

@@ -1,6 +1,9 @@
 //! Each call with ample memory, against documents that were worked out by hand.
 
-use super::*;
+use device_docs::{
+    Change, ChangeFault, DocFault, Job, JobStatus, read_change, read_execution, write_execution,
+    write_update,
+};
 use list_types::Text;
 use std::alloc::{AllocError, Global};
 use std::test::Fail;

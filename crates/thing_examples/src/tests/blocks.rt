@@ -1,8 +1,11 @@
 //! Each call against messages that were worked out by hand from RFC 8949.
 
-use super::*;
 use arrayvec::ArrayVec;
 use std::test::Fail;
+use stream_blocks::{
+    AskBlocks, CborFault, Head, Missing, TooSmall, read_block, read_request, write_block,
+    write_request,
+};
 
 /// A block of three bytes: file 0, index 0, `abc`.
 const BLOCK: [u8; 19] = [
