@@ -1,7 +1,7 @@
 //! Exchanges as text. A line is what happens to the broker, and its replies, each behind ` > `: packets in
 //! hexadecimal, and `close`. An `open` takes the place of the connection that is there.
 
-use crate::{Broker, Replies};
+use broker_core::{Broker, Replies};
 use list_types::{Blob, Text};
 use mqtt_packet::{Next, Packet, Qos, Splitter, encode};
 use std::alloc::{AllocError, Global};

@@ -2,7 +2,7 @@
 
 mod exchanges;
 
-use super::*;
+use broker_core::Broker;
 use exchanges::{comes, differs};
 use std::alloc::Global;
 
