@@ -1,5 +1,5 @@
 -- A frame that was put together, and the text in it.
-use Rattle.std.proofs.Common.{◌≡◌, ℕ, ◌+◌, ◌≤◌, List, ◌++◌, length, take, drop, refl, sym, ◌∙◌, ap, subst, arith, length-append}
+use Rattle.std.proofs.Common.{◌≡◌, ℕ, ◌+◌, ◌≤◌, List, ◌++◌, length, take, drop, refl, ◌∙◌, ap, subst, arith, length-append}
 use Rattle.std.proofs.lemmas.List.{take_at, drop-take, length-take-le}
 use Rattle.std.specs.Int.{w32, to_be_bytes}
 use Rattle.disk_slots.specs.Disks.{overwritten}

@@ -1,9 +1,8 @@
 -- What a write and a sync do to the images of a disk over memory.
 use Rattle.std.proofs.Common.{◌≡◌, ℕ, zero, suc, ◌+◌, ◌-◌, ◌≤◌, Bool, true, false, cond, List, [], ◌∷◌, ◌++◌, length, take, drop, get_or, replicate, refl, sym, ◌∙◌, ap, subst, arith}
-use Rattle.std.proofs.lemmas.List.{take-take, drop-drop, take_at, drop_at, take-append-le, take-append-drop, take-replicate, drop-replicate, length-take-le, length-replicate, length-append, length-drop, append_assoc, replicate-append-replicate, take_all, drop-take}
+use Rattle.std.proofs.lemmas.List.{take-take, drop-drop, take_at, drop_at, take-append-le, take-append-drop, take-replicate, drop-replicate, length-take-le, length-replicate, length-append, length-drop, append_assoc, replicate-append-replicate}
 use Rattle.std.proofs.lemmas.Slice.{between_is}
 use Rattle.std.specs.List.{between}
-use Rattle.std.specs.Prelude.{◌↔◌, min, max}
 use Rattle.disk_slots.specs.Disks.{Torn, Widens, Only, overwritten}
 use Rattle.disk_slots.specs.Fitting.{image_len}
 use Rattle.disk_slots.specs.Memory.{masked, Agrees, marked, filled, crashed}

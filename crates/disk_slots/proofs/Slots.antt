@@ -1,14 +1,13 @@
 -- What the writes of a save leave of the slots and of the gate.
-use Rattle.std.proofs.Common.{◌≡◌, ◌⊎◌, inl, inr, ⊎_elim, ℕ, zero, suc, ◌+◌, ◌-◌, ◌*◌, ◌%◌, ◌==◌, ◌<◌, ◌≤◌, ◌^◌, Bool, true, false, List, [], ◌∷◌, ◌++◌, length, take, drop, get_or, Option, Some, refl, sym, ◌∙◌, ap, subst, cond, arith, append_assoc, length-append}
+use Rattle.std.proofs.Common.{◌≡◌, ◌⊎◌, inl, inr, ℕ, ◌+◌, ◌-◌, ◌*◌, ◌%◌, ◌==◌, ◌<◌, ◌≤◌, ◌^◌, Bool, true, false, List, [], ◌∷◌, ◌++◌, length, take, drop, get_or, Some, refl, sym, ◌∙◌, ap, subst, cond, arith, append_assoc}
 use Rattle.std.proofs.lemmas.List.{take-take, drop-drop, drop-take, get_or-take, take_at, drop_at, length-take-le}
 use Rattle.std.proofs.lemmas.Bool.{le-leb, cond-true}
 use Rattle.std.proofs.lemmas.Nat.{from_be_bytes-to_be_bytes_4}
 use Rattle.std.specs.Int.{w32, to_be_bytes, from_be_bytes}
-use Rattle.std.specs.Prelude.{slice_index}
 use Rattle.disk_slots.specs.declared.slot.Slot.{Slot}
 use Rattle.disk_slots.specs.declared.slot.Slot.TheVariants.{First, Second}
 use Rattle.disk_slots.specs.Disks.{overwritten, Torn}
-use Rattle.disk_slots.specs.Slots.{gate_of, named, named_in, other, start, bytes_of, framed, text_with, text_in, counting, framed_text, IsFramed, HasText, Counts}
+use Rattle.disk_slots.specs.Slots.{gate_of, named, named_in, other, start, bytes_of, text_with, text_in, counting, framed_text, IsFramed, HasText, Counts}
 
 front_same : (at k : ℕ) (c d : List ℕ) → k ≤ at → take at c ≡ take at d → take k c ≡ take k d
 front_same at k c d le e = sym (take-take k at c le) ∙ ap (λ (l : List ℕ). take k l) e ∙ take-take k at d le

@@ -1,10 +1,10 @@
 -- What the images of a disk count as, behind each call of a save.
-use Rattle.std.proofs.Common.{refl, ◌≡◌, ◌⊎◌, inl, inr, ⊎_elim, ℕ, ◌+◌, ◌*◌, ◌<◌, ◌≤◌, ◌^◌, List, [], ◌∷◌, length, take, Some, Result, Ok, Err, sym, ◌∙◌, ap, subst, arith}
+use Rattle.std.proofs.Common.{refl, ◌≡◌, inl, inr, ⊎_elim, ℕ, ◌+◌, ◌*◌, ◌<◌, ◌≤◌, ◌^◌, List, [], ◌∷◌, length, take, Result, Ok, Err, sym, ◌∙◌, ap, subst, arith}
 use Rattle.std.specs.Prelude.{OnOk, OnErr, slice_index}
 use Rattle.disk_slots.specs.declared.slot.Slot.{Slot}
-use Rattle.disk_slots.specs.declared.slot.Slot.TheVariants.{First, Second}
+use Rattle.disk_slots.specs.declared.slot.Slot.TheVariants.{First}
 use Rattle.disk_slots.specs.Disks.{overwritten, Torn, Only, Same, Widens}
-use Rattle.disk_slots.specs.Slots.{gate_of, named_in, other, start, bytes_of, text_in, counting, framed_text, IsFramed, HasText, Counts, AllCount, HoldsOneOf}
+use Rattle.disk_slots.specs.Slots.{gate_of, named_in, other, start, bytes_of, text_in, framed_text, IsFramed, HasText, AllCount, HoldsOneOf}
 use Rattle.disk_slots.proofs.Slots.{other_kept, slots_kept, counted_as, alike, has_written, named_or_other, gate_written, gate_leaves, bytes_before}
 use Rattle.disk_slots.proofs.Marks.{overwritten_len, overwritten_torn}
 

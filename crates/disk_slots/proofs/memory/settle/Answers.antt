@@ -1,4 +1,4 @@
-use Rattle.std.proofs.Common.{◌≡◌, ◌-◌, ℕ, List, take, drop, ◌∙◌, ap}
+use Rattle.std.proofs.Common.{◌-◌, ℕ, List, take, drop, ◌∙◌, ap}
 use Rattle.disk_slots.specs.Disks.{overwritten}
 use Rattle.disk_slots.proofs.Marks.{settled_is}
 use Rattle.disk_slots.proofs.memory.settle.Goals as goal

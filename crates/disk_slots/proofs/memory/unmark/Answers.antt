@@ -1,4 +1,4 @@
-use Rattle.std.proofs.Common.{◌≡◌, ◌∙◌}
+use Rattle.std.proofs.Common.{◌∙◌}
 use Rattle.disk_slots.proofs.Marks.{cleared}
 use Rattle.disk_slots.proofs.memory.unmark.Goals as goal
 

@@ -1,4 +1,4 @@
-use Rattle.std.proofs.Common.{◌≡◌, List, ℕ, sym, subst, inl}
+use Rattle.std.proofs.Common.{sym, subst, inl}
 use Rattle.disk_slots.specs.Slots.{AllCount}
 use Rattle.disk_slots.proofs.Slots.{other_of, counted_as}
 use Rattle.disk_slots.proofs.saving.switch.Goals as goal

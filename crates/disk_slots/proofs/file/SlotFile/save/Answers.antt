@@ -1,4 +1,4 @@
-use Rattle.std.proofs.Common.{◌≡◌, ◌+◌, ℕ, List, length, take, refl, sym, ◌∙◌, ap, arith}
+use Rattle.std.proofs.Common.{◌+◌, ℕ, List, length, take, refl, sym, ◌∙◌, ap, arith}
 use Rattle.disk_slots.proofs.Frames.{all_count, holds, holds_one, text_of}
 use Rattle.disk_slots.specs.Slots.{framed_text, file_len}
 use Rattle.disk_slots.proofs.file.SlotFile.save.Goals as goal

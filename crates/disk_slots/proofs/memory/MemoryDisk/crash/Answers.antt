@@ -1,4 +1,4 @@
-use Rattle.std.proofs.Common.{◌≡◌, ◌∙◌, ℕ, List, length, replicate, false, refl, sym, ap, subst, arith}
+use Rattle.std.proofs.Common.{◌∙◌, ℕ, List, length, replicate, false, refl, sym, ap, subst, arith}
 use Rattle.std.proofs.lemmas.List.{length-replicate}
 use Rattle.disk_slots.specs.Memory.{masked, Agrees}
 use Rattle.disk_slots.proofs.Marks.{only_settled, crash_agrees, crash_len}

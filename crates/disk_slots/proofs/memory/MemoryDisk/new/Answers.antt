@@ -1,4 +1,4 @@
-use Rattle.std.proofs.Common.{rules, ◌≡◌, ℕ, Bool, List, false, replicate}
+use Rattle.std.proofs.Common.{rules, ◌≡◌, false, replicate}
 use Rattle.disk_slots.proofs.Marks.{only_settled}
 use Rattle.disk_slots.proofs.memory.MemoryDisk.new.Goals as goal
 

@@ -1,6 +1,5 @@
-use Rattle.std.proofs.Common.{◌≡◌, ◌∙◌, length, sym, ap}
+use Rattle.std.proofs.Common.{length, sym}
 use Rattle.disk_slots.proofs.Marks.{front_alike, back_alike, only_settled}
-use Rattle.disk_slots.specs.Fitting.{image_len}
 use Rattle.disk_slots.proofs.memory.MemoryDiskDisk.sync.Goals as goal
 
 pub settle-requires-clause-outside : goal.settle-requires-clause-outside

@@ -1,5 +1,5 @@
-use Rattle.std.proofs.Common.{◌≡◌, ◌∙◌, ◌+◌, ◌≤◌, length, true, sym, ap, arith}
-use Rattle.disk_slots.proofs.Marks.{widens, refused_agrees, written_agrees, front_clear, back_clear, filled_len, clear_outside, overwritten_len}
+use Rattle.std.proofs.Common.{◌∙◌, ◌+◌, ◌≤◌, length, true, sym, ap, arith}
+use Rattle.disk_slots.proofs.Marks.{widens, refused_agrees, written_agrees, filled_len, clear_outside, overwritten_len}
 use Rattle.disk_slots.proofs.memory.MemoryDiskDisk.write_at.Goals as goal
 
 pub returns-in_err-burn-clause-crash : goal.returns-in_err-burn-clause-crash

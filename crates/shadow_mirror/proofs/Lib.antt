@@ -1,0 +1,6 @@
+mod Fronts
+mod Adding
+mod Docs
+mod Places
+mod Published
+mod Sights
