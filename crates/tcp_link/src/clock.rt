@@ -1,13 +1,15 @@
 //! The time since a clock was made.
 
-ghost use Rattle.std.specs.Prelude.{◌≡◌, ◌≤◌, ℕ, List};
+ghost use Rattle.std.specs.Prelude.{◌≡◌, ◌≤◌, None};
+ghost use Rattle.agent_link.specs.Clocks.{AddsReading};
 
 use agent_link::Clock;
 use std::io;
 use std::time::{self, Instant};
 
-/// The milliseconds since the clock was made. They never fall: where the system gives no time, the
-/// last reading stands. It tells no readings.
+/// The milliseconds since the clock was made, up to the greatest `u64`. They never fall: where the
+/// system gives no time, or one before the last reading, the last reading stands. It tells no
+/// readings.
 #[derive(Drop)]
 pub struct SystemClock<'r, R: time::Clock> {
     rt: &'r R,
@@ -27,12 +29,10 @@ impl<'r, R: time::Clock> SystemClock<'r, R> {
 }
 
 impl<'r, R: time::Clock> Clock for SystemClock<'r, R> {
-    ghost use Rattle.std.specs.Prelude.{None};
-
     ghost readings = { λ _. None };
 
     fn now_ms(&mut self) -> u64
-        ensures told { Unit {0} }
+        ensures told { AddsReading None None result }
         ensures last { self.new.last ≡ result }
         ensures onward { self.old.last ≤ result }
     {
@@ -43,3 +43,6 @@ impl<'r, R: time::Clock> Clock for SystemClock<'r, R> {
         self.last
     }
 }
+
+#[cfg(test)]
+mod tests;

@@ -1,49 +1,99 @@
 //! A link over TCP.
 
-ghost use Rattle.std.specs.Prelude.{◌≡◌};
+ghost use Rattle.std.specs.Prelude.{◌≡◌, ◌<◌, ◌≤◌, length, Ok, IfSome};
+ghost use Rattle.agent_link.specs.Counts.{uncounted, with_fault};
+ghost use Rattle.agent_link.specs.Wires.{FitsIn};
+ghost use Rattle.agent_link.specs.declared.fault.Fault.TheVariants.{Failed};
+ghost use Rattle.tcp_link.specs.Looks.{fresh_looks, looks_after, with_heard};
 
-use crate::stream::{read_now, write_some};
+use crate::counts::Counts;
+use crate::stream::{await_end, connect, read_now, read_soon, write_some};
 use agent_link::{Fault, Heard, Link};
-use std::net::{Net, OpenStream, Shutdown, TcpStream};
-use std::time::{Clock, Duration};
-use std::{io, thread};
+use std::net::{Net, OpenStream, Shutdown};
+use std::time::Clock;
 
-/// How many receives in a row don't wait, behind bytes that came or went. All others wait a millisecond
-/// before they look, so that an agent with nothing to do looks once a millisecond, and 10,000 looks in
-/// a row that hear nothing take 9.5 seconds or more.
+/// How many receives in a row don't wait, behind an opening or bytes that came or went. All others
+/// that hear nothing take a millisecond, so that an agent with nothing to do looks once a
+/// millisecond, and 10,000 looks in a row that hear nothing take 9.5 seconds or more.
 const QUICK: u32 = 500;
 
-/// One TCP connection at a time. It tells no bytes.
+/// One TCP connection at a time. It tells no bytes. A send or a receive fails where no connection
+/// is open: before the first opening, behind `shut`, and behind an opening that failed.
 #[derive(Drop)]
 pub struct TcpLink<'r, R: Net + Clock> {
     rt: &'r R,
     stream: Option<R::Stream>,
     quick: u32,
-    faults: u64,
-    ends: u64,
-    nothings: u64,
+    counts: Counts,
 }
 
 impl<'r, R: Net + Clock> TcpLink<'r, R> {
     /// A link that was never opened.
     pub fn new(rt: &'r R) -> Self
-        ensures { (result.faults ≡ 0) × (result.ends ≡ 0) × (result.nothings ≡ 0) }
+        ensures { result.counts ≡ uncounted }
     {
         TcpLink {
             rt,
             stream: None,
             quick: 0,
-            faults: 0,
-            ends: 0,
-            nothings: 0,
+            counts: Counts::new(),
         }
     }
 
-    fn connect(&self, to: &str) -> io::Result<R::Stream> {
-        let stream = TcpStream::connect(self.rt, to)?;
-        stream.set_nodelay(true)?;
-        stream.set_nonblocking(true)?;
-        Ok(stream)
+    /// Counts a fault.
+    fn fail(&mut self) -> Fault
+        ensures fault { result ≡ Failed }
+        ensures counts { self.new.counts ≡ with_fault self.old.counts }
+        ensures quick { self.new.quick ≡ self.old.quick }
+    {
+        self.counts.fault();
+        Fault::Failed
+    }
+
+    /// Sends a front of the bytes. `None` is a fault that isn't counted yet.
+    fn put(&mut self, bytes: &[u8]) -> Option<usize>
+        ensures some { IfSome result (λ n. (0 < n) × (n ≤ length bytes.now)) }
+        ensures counts { self.new.counts ≡ self.old.counts }
+        ensures quick { self.new.quick ≡ fresh_looks }
+    {
+        self.quick = QUICK;
+        match &mut self.stream {
+            Some(stream) => write_some(self.rt, stream, bytes),
+            None => None,
+        }
+    }
+
+    /// What a receive brings. `None` is a fault. Neither is counted yet.
+    fn look(&mut self, buf: &mut [u8]) -> Option<Heard>
+        requires { 0 < length buf.old }
+        ensures fits { IfSome result (λ heard. FitsIn (Ok heard) buf.new) }
+        ensures len { length buf.new ≡ length buf.old }
+        ensures counts { self.new.counts ≡ self.old.counts }
+        ensures quick { self.new.quick ≡ self.old.quick }
+    {
+        match &mut self.stream {
+            Some(stream) => {
+                if self.quick > 0 {
+                    read_now(stream, buf)
+                } else {
+                    read_soon(self.rt, stream, buf)
+                }
+            }
+            None => None,
+        }
+    }
+
+    /// Counts what a receive brought.
+    fn note(&mut self, heard: Heard)
+        ensures counts { self.new.counts ≡ with_heard heard self.old.counts }
+        ensures quick { self.new.quick ≡ looks_after heard self.old.quick }
+    {
+        self.counts.heard(heard);
+        match heard {
+            Heard::Bytes(_) => self.quick = QUICK,
+            Heard::Nothing => self.quick = self.quick.saturating_sub(1),
+            Heard::End => {}
+        }
     }
 }
 
@@ -54,76 +104,56 @@ impl<'r, R: Net + Clock> Link for TcpLink<'r, R> {
 
     ghost given = { λ _. None };
 
-    ghost faults = { λ l. l.faults };
+    ghost faults = { λ l. l.counts.faults };
 
-    ghost ends = { λ l. l.ends };
+    ghost ends = { λ l. l.counts.ends };
 
-    ghost nothings = { λ l. l.nothings };
+    ghost nothings = { λ l. l.counts.nothings };
 
+    /// Ends the connection that may still be open, and opens one to `host:port`. It fails where the
+    /// host has no address, or none of its addresses answers within ten seconds.
     fn open(&mut self, to: &str) -> Result<(), Fault> {
-        match self.connect(to) {
+        self.shut();
+        match connect(self.rt, to) {
             Ok(stream) => {
                 self.stream = Some(stream);
                 self.quick = QUICK;
                 Ok(())
             }
-            Err(_) => {
-                self.faults = self.faults.saturating_add(1);
-                Err(Fault::Failed)
-            }
+            Err(_) => Err(self.fail()),
         }
     }
 
+    /// Sends at once what there is room for. It waits for room, and fails where there is none for
+    /// ten seconds.
     fn send(&mut self, bytes: &[u8]) -> Result<usize, Fault> {
-        self.quick = QUICK;
-        let sent = match &mut self.stream {
-            Some(stream) => write_some(self.rt, stream, bytes),
-            None => None,
-        };
-        match sent {
+        match self.put(bytes) {
             Some(n) => Ok(n),
-            None => {
-                self.faults = self.faults.saturating_add(1);
-                Err(Fault::Failed)
-            }
+            None => Err(self.fail()),
         }
     }
 
     fn recv(&mut self, buf: &mut [u8]) -> Result<Heard, Fault> {
-        let heard = match &mut self.stream {
-            Some(stream) => {
-                if self.quick == 0 {
-                    thread::sleep(self.rt, Duration::from_millis(1));
-                }
-                read_now(stream, buf)
+        match self.look(buf) {
+            Some(heard) => {
+                self.note(heard);
+                Ok(heard)
             }
-            None => None,
-        };
-        match heard {
-            Some(Heard::Bytes(n)) => {
-                self.quick = QUICK;
-                Ok(Heard::Bytes(n))
-            }
-            Some(Heard::Nothing) => {
-                self.quick = self.quick.saturating_sub(1);
-                self.nothings = self.nothings.saturating_add(1);
-                Ok(Heard::Nothing)
-            }
-            Some(Heard::End) => {
-                self.ends = self.ends.saturating_add(1);
-                Ok(Heard::End)
-            }
-            None => {
-                self.faults = self.faults.saturating_add(1);
-                Err(Fault::Failed)
-            }
+            None => Err(self.fail()),
         }
     }
 
+    /// Closes the connection once the peer has closed it too, or after about a second. What was sent
+    /// last may be lost where a connection is closed with bytes in it that nobody read.
     fn shut(&mut self) {
-        if let Some(stream) = &self.stream {
-            let _ = stream.shutdown(Shutdown::Both);
+        if let Some(stream) = &mut self.stream {
+            if stream.shutdown(Shutdown::Write).is_ok() {
+                await_end(self.rt, stream);
+            }
         }
         self.stream = None;
     }
 }
+
+#[cfg(test)]
+mod tests;

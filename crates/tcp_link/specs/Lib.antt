@@ -1,0 +1,2 @@
+-- What a link over TCP counts and how long it waits.
+pub mod Looks
