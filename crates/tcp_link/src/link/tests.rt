@@ -14,17 +14,22 @@ fn listen(rt: &HostRuntime) -> Result<(TcpListener, String), Fail> {
     Ok((listener, to))
 }
 
+/// What a receive brings, and the buffer behind it.
+fn look(link: &mut TcpLink<'_, HostRuntime>) -> (Result<Heard, Fault>, [u8; 8]) {
+    let mut buf = [b'.'; 8];
+    let heard = link.recv(buf.as_mut_slice());
+    (heard, buf)
+}
+
 /// What comes next, past all that is nothing yet.
-fn hear(link: &mut TcpLink<'_, HostRuntime>, buf: &mut [u8]) -> Result<Heard, Fault>
-    requires { 0 < length buf.old }
-{
+fn hear(link: &mut TcpLink<'_, HostRuntime>) -> (Result<Heard, Fault>, [u8; 8]) {
     for _ in 0..60_000 {
-        match link.recv(buf) {
-            Ok(Heard::Nothing) => {}
+        match look(link) {
+            (Ok(Heard::Nothing), _) => {}
             heard => return heard,
         }
     }
-    Ok(Heard::Nothing)
+    look(link)
 }
 
 #[test]
@@ -40,12 +45,10 @@ fn bytes_go_both_ways_and_then_the_peer_closes(rt: HostRuntime) -> Result<(), Fa
     assert_eq!(rt; &buf, b"ping");
 
     peer.write_all(b"pong")?;
-    let mut buf = [b'.'; 8];
-    assert_eq!(rt; hear(&mut link, buf.as_mut_slice()), Ok(Heard::Bytes(4)));
-    assert_eq!(rt; &buf, b"pong....");
+    assert_eq!(rt; hear(&mut link), (Ok(Heard::Bytes(4)), *b"pong...."));
 
     drop(peer);
-    assert_eq!(rt; hear(&mut link, buf.as_mut_slice()), Ok(Heard::End));
+    assert_eq!(rt; hear(&mut link), (Ok(Heard::End), *b"........"));
     assert_eq!(rt; (link.counts.faults, link.counts.ends), (0, 1));
     Ok(())
 }
@@ -56,11 +59,9 @@ fn a_silent_peer_is_heard_as_nothing(rt: HostRuntime) -> Result<(), Fail> {
     let mut link = TcpLink::new(&rt);
     assert_eq!(rt; link.open(&to), Ok(()));
     let (_peer, _) = listener.accept()?;
-    let mut buf = [b'.'; 8];
     for _ in 0..502 {
-        assert_eq!(rt; link.recv(buf.as_mut_slice()), Ok(Heard::Nothing));
+        assert_eq!(rt; look(&mut link), (Ok(Heard::Nothing), *b"........"));
     }
-    assert_eq!(rt; &buf, b"........");
     assert_eq!(rt; (link.counts.nothings, link.quick), (502, 0));
     Ok(())
 }
@@ -68,10 +69,9 @@ fn a_silent_peer_is_heard_as_nothing(rt: HostRuntime) -> Result<(), Fail> {
 #[test]
 fn nobody_is_there(rt: HostRuntime) -> Result<(), Fail> {
     let mut link = TcpLink::new(&rt);
-    let mut buf = [b'.'; 8];
     // Never opened.
     assert_eq!(rt; link.send(b"ping"), Err(Fault::Failed));
-    assert_eq!(rt; link.recv(buf.as_mut_slice()), Err(Fault::Failed));
+    assert_eq!(rt; look(&mut link).0, Err(Fault::Failed));
     // Nobody listens on port 1, and the others are no addresses.
     for to in ["127.0.0.1:1", "", "127.0.0.1", "127.0.0.1:65536", "[::1:1"] {
         assert_eq!(rt; link.open(to), Err(Fault::Failed), "to {to}");
