@@ -1,8 +1,9 @@
 //! A link over TCP.
 
-ghost use Rattle.std.specs.Prelude.{◌≡◌, ◌<◌, ◌≤◌, length, Ok, IfSome};
-ghost use Rattle.agent_link.specs.Counts.{uncounted, with_fault};
-ghost use Rattle.agent_link.specs.Wires.{FitsIn};
+ghost use Rattle.std.specs.Prelude.{◌≡◌, ◌<◌, ◌≤◌, length, Ok, Err, None, IsSome, IfSome, IfOk, OnOk, OnErr};
+ghost use Rattle.std.specs.Io.{WritesAtMost};
+ghost use Rattle.agent_link.specs.Counts.{uncounted, counted, with_fault};
+ghost use Rattle.agent_link.specs.Wires.{after_open, after_send, after_recv, ended, silent, FitsIn};
 ghost use Rattle.agent_link.specs.declared.fault.Fault.TheVariants.{Failed};
 ghost use Rattle.tcp_link.specs.Looks.{fresh_looks, looks_after, with_heard};
 
@@ -30,7 +31,8 @@ pub struct TcpLink<'r, R: Net + Clock> {
 impl<'r, R: Net + Clock> TcpLink<'r, R> {
     /// A link that was never opened.
     pub fn new(rt: &'r R) -> Self
-        ensures { result.counts ≡ uncounted }
+        ensures counts { result.counts ≡ uncounted }
+        ensures closed { result.stream ≡ None }
     {
         TcpLink {
             rt,
@@ -45,6 +47,7 @@ impl<'r, R: Net + Clock> TcpLink<'r, R> {
         ensures fault { result ≡ Failed }
         ensures counts { self.new.counts ≡ with_fault self.old.counts }
         ensures quick { self.new.quick ≡ self.old.quick }
+        ensures stream { self.new.stream ≡ self.old.stream }
     {
         self.counts.fault();
         Fault::Failed
@@ -53,6 +56,7 @@ impl<'r, R: Net + Clock> TcpLink<'r, R> {
     /// Sends a front of the bytes. `None` is a fault that isn't counted yet.
     fn put(&mut self, bytes: &[u8]) -> Option<usize>
         ensures some { IfSome result (λ n. (0 < n) × (n ≤ length bytes.now)) }
+        ensures closed { self.old.stream ≡ None → result ≡ None }
         ensures counts { self.new.counts ≡ self.old.counts }
         ensures quick { self.new.quick ≡ fresh_looks }
     {
@@ -68,6 +72,7 @@ impl<'r, R: Net + Clock> TcpLink<'r, R> {
         requires { 0 < length buf.old }
         ensures fits { IfSome result (λ heard. FitsIn (Ok heard) buf.new) }
         ensures len { length buf.new ≡ length buf.old }
+        ensures closed { self.old.stream ≡ None → result ≡ None }
         ensures counts { self.new.counts ≡ self.old.counts }
         ensures quick { self.new.quick ≡ self.old.quick }
     {
@@ -98,8 +103,6 @@ impl<'r, R: Net + Clock> TcpLink<'r, R> {
 }
 
 impl<'r, R: Net + Clock> Link for TcpLink<'r, R> {
-    ghost use Rattle.std.specs.Prelude.{None};
-
     ghost taken = { λ _. None };
 
     ghost given = { λ _. None };
@@ -112,7 +115,15 @@ impl<'r, R: Net + Clock> Link for TcpLink<'r, R> {
 
     /// Ends the connection that may still be open, and opens one to `host:port`. It fails where the
     /// host has no address, or none of its addresses answers within ten seconds.
-    fn open(&mut self, to: &str) -> Result<(), Fault> {
+    fn open(&mut self, to: &str) -> Result<(), Fault>
+        ensures taken { None ≡ after_open None result }
+        ensures given { None ≡ after_open None result }
+        ensures cause { self.new.counts.faults ≡ counted result self.old.counts.faults }
+        ensures ends { self.new.counts.ends ≡ self.old.counts.ends }
+        ensures nothings { self.new.counts.nothings ≡ self.old.counts.nothings }
+        ensures opened { OnOk result (IsSome self.new.stream) }
+        ensures closed { OnErr result (self.new.stream ≡ None) }
+    {
         self.shut();
         match connect(self.rt, to) {
             Ok(stream) => {
@@ -126,14 +137,32 @@ impl<'r, R: Net + Clock> Link for TcpLink<'r, R> {
 
     /// Sends at once what there is room for. It waits for room, and fails where there is none for
     /// ten seconds.
-    fn send(&mut self, bytes: &[u8]) -> Result<usize, Fault> {
+    fn send(&mut self, bytes: &[u8]) -> Result<usize, Fault>
+        ensures bound { WritesAtMost result bytes.now }
+        ensures some { IfOk result (λ n. 0 < n) }
+        ensures taken { None ≡ after_send None result bytes.now }
+        ensures cause { self.new.counts.faults ≡ counted result self.old.counts.faults }
+        ensures ends { self.new.counts.ends ≡ self.old.counts.ends }
+        ensures nothings { self.new.counts.nothings ≡ self.old.counts.nothings }
+        ensures quick { self.new.quick ≡ fresh_looks }
+        ensures closed { self.old.stream ≡ None → result ≡ Err Failed }
+    {
         match self.put(bytes) {
             Some(n) => Ok(n),
             None => Err(self.fail()),
         }
     }
 
-    fn recv(&mut self, buf: &mut [u8]) -> Result<Heard, Fault> {
+    fn recv(&mut self, buf: &mut [u8]) -> Result<Heard, Fault>
+        requires { 0 < length buf.old }
+        ensures bound { FitsIn result buf.new }
+        ensures given { None ≡ after_recv None result buf.new }
+        ensures cause { self.new.counts.faults ≡ counted result self.old.counts.faults }
+        ensures ends { self.new.counts.ends ≡ ended result self.old.counts.ends }
+        ensures nothings { self.new.counts.nothings ≡ silent result self.old.counts.nothings }
+        ensures quick { IfOk result (λ heard. self.new.quick ≡ looks_after heard self.old.quick) }
+        ensures closed { self.old.stream ≡ None → result ≡ Err Failed }
+    {
         match self.look(buf) {
             Some(heard) => {
                 self.note(heard);
@@ -145,7 +174,12 @@ impl<'r, R: Net + Clock> Link for TcpLink<'r, R> {
 
     /// Closes the connection once the peer has closed it too, or after about a second. What was sent
     /// last may be lost where a connection is closed with bytes in it that nobody read.
-    fn shut(&mut self) {
+    fn shut(&mut self)
+        ensures faults { self.new.counts.faults ≡ self.old.counts.faults }
+        ensures ends { self.new.counts.ends ≡ self.old.counts.ends }
+        ensures nothings { self.new.counts.nothings ≡ self.old.counts.nothings }
+        ensures closed { self.new.stream ≡ None }
+    {
         if let Some(stream) = &mut self.stream {
             if stream.shutdown(Shutdown::Write).is_ok() {
                 await_end(self.rt, stream);
