@@ -164,9 +164,10 @@ impl<const ACKS: usize, const IN: usize, const ROUTES: usize> Recorder<ACKS, IN,
         last_effects(self.entries.as_slice())
     }
 
-    /// The entries, oldest first.
+    /// The entries, oldest first. They are a legal journal.
     pub fn entries(&self) -> &[Entry]
-        ensures { reverse result.now ≡ self.now.past }
+        ensures entries { reverse result.now ≡ self.now.past }
+        ensures legal { IsLegalPast self.now.setup self.now.sizes self.now.past }
     {
         self.entries.as_slice()
     }
