@@ -1,0 +1,39 @@
+-- What is published behind all steps.
+use Rattle.std.proofs.Common.{◌≡◌, Bool, true, false, List, [], ◌∷◌, ◌++◌, fold, cond, if◌then◌else◌, ◌||◌, refl, sym, ap, ◌∙◌, append_assoc, append-nil}
+use Rattle.std.specs.List.{list_any}
+use Rattle.device_docs.specs.declared.changes.Change.{Change}
+use Rattle.mirror_run.specs.declared.steps.MirrorStep.{MirrorStep}
+use Rattle.mirror_run.specs.declared.steps.MirrorStep.TheVariants.{Change as Noting, Publish}
+use Rattle.mirror_run.specs.Answers.{is_publish, published}
+use Rattle.mirror_run.specs.Noted.{Noted, after, none_noted}
+
+-- where none publishes
+kept : (n : Noted) (steps : List MirrorStep) → list_any is_publish steps ≡ false → (fold after n steps).published ≡ n.published
+kept n [] none = refl
+kept n (Publish ∷ steps) none = absurd (cc none)
+kept n (Noting c ∷ steps) none = kept (after n (Noting c)) steps none
+
+nothing : (steps : List MirrorStep) → list_any is_publish steps ≡ false → published steps ≡ []
+nothing [] none = refl
+nothing (Publish ∷ steps) none = absurd (cc none)
+nothing (Noting c ∷ steps) none = rw none refl
+
+added : (n : Noted) (steps : List MirrorStep) → list_any is_publish steps ≡ true → (fold after n steps).published ≡ n.published ++ n.pending ++ published steps
+
+-- where the last publish has come, or is to come
+published_behind : (n : Noted) (steps : List MirrorStep) (b : Bool) → list_any is_publish steps ≡ b → (fold after (after n Publish) steps).published ≡ n.published ++ n.pending ++ published steps
+published_behind n steps true some = added (after n Publish) steps some
+published_behind n steps false none = kept (after n Publish) steps none ∙ sym (append-nil (n.published ++ n.pending)) ∙ ap (λ (l : List Change). n.published ++ n.pending ++ l) (sym (nothing steps none))
+
+added n [] some = absurd (cc some)
+added n (Publish ∷ steps) some = published_behind n steps (list_any is_publish steps) refl
+added n (Noting c ∷ steps) some =
+    added (after n (Noting c)) steps some ∙ ap (λ (l : List Change). l ++ published steps) (sym (append_assoc n.published n.pending (c ∷ []))) ∙ append_assoc (n.published ++ n.pending) (c ∷ []) (published steps)
+    ∙ rw some refl
+
+published_by : (steps : List MirrorStep) (b : Bool) → list_any is_publish steps ≡ b → (fold after none_noted steps).published ≡ published steps
+published_by steps true some = added none_noted steps some
+published_by steps false none = kept none_noted steps none ∙ sym (nothing steps none)
+
+pub published_is : (steps : List MirrorStep) → (fold after none_noted steps).published ≡ published steps
+published_is steps = published_by steps (list_any is_publish steps) refl

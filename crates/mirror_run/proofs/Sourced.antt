@@ -1,0 +1,2 @@
+-- The answer of the command.
+use Rattle.std.proofs.Common.{◌≡◌}
