@@ -1,5 +1,5 @@
 -- Where the first element stands that passes a test.
-use Rattle.std.proofs.Common.{◌≡◌, ◌≤◌, ℕ, not, Bool, true, false, List, [], ◌∷◌, length, Option, Some, None, nat_lt, cond, if◌then◌else◌, position, refl, sym, ap, ◌∙◌, arith}
+use Rattle.std.proofs.Common.{◌≡◌, ◌≤◌, ℕ, not, Bool, true, false, List, length, Option, Some, None, nat_lt, cond, position, refl, arith}
 use Rattle.std.specs.List.{position_or_len}
 use Rattle.std.proofs.lemmas.List.Sums.{prefix_len-le-length}
 use Rattle.std.proofs.lemmas.Bool.Decides.{nat_tests}

@@ -1,5 +1,5 @@
 -- Behind a publish all that waited is published.
-use Rattle.std.proofs.Common.{◌≡◌, ◌≤◌, ℕ, List, [], ◌++◌, length, take, Option, Some, None, IsSomeAnd, fold, refl, ap, sym, ◌∙◌, arith}
+use Rattle.std.proofs.Common.{◌≡◌, ℕ, List, [], ◌++◌, length, take, Option, Some, None, IsSomeAnd, fold, ap, sym, ◌∙◌, arith}
 use Rattle.std.proofs.lemmas.List.{take_all}
 use Rattle.device_docs.specs.declared.changes.Change.{Change}
 use Rattle.shadow_mirror.specs.Documents.{changed, doc}

@@ -1,5 +1,5 @@
 -- Steps that leave the page's history keep the rule.
-use Rattle.std.proofs.Common.{◌≡◌, ℕ, ◌≢◌, List, [], ◌∷◌, ◌++◌, set, refl, sym, ◌∙◌, ap, subst, ⊎_elim, fold, Result, Ok, Err, false, is_err, MatchResult, OnOk}
+use Rattle.std.proofs.Common.{◌≡◌, ℕ, ◌≢◌, List, [], ◌∷◌, ◌++◌, set, refl, ◌∙◌, ap, subst, ⊎_elim, fold, Result, Ok, Err, false, is_err, MatchResult, OnOk}
 use mathlib.Core.Option.{some}
 use lib.ListN.{get_elem?}
 use Rattle.left_right.specs.Register.{Admits, TurnsAt, Forks, Merges}
@@ -7,7 +7,7 @@ use Rattle.atomic_table.proofs.Lists.{at_set, at_snoc}
 use Rattle.shadow_mirror.specs.Pasts.{Past}
 use Rattle.shadow_mirror.specs.Known.{Fits, AllFit, Sights, known_of}
 use Rattle.shadow_mirror.specs.declared.known.Known.{Known}
-use Rattle.shadow_mirror.specs.declared.known.Known.TheVariants.{Nothing, Of}
+use Rattle.shadow_mirror.specs.declared.known.Known.TheVariants.{Nothing}
 
 pub admits : Admits AllFit Nothing
 admits x views h seat v at = ⊎_elim (h seat v) (λ (e : Nothing ≡ v). subst (λ (z : Known). Fits z x.book) e tt) (at_snoc views Nothing v seat at)

@@ -1,5 +1,5 @@
 -- What a reader knows.
-use Rattle.std.specs.Prelude.{◌≡◌, List, Option, Some, None}
+use Rattle.std.specs.Prelude.{List}
 use Rattle.logbook.specs.Pages.{Book}
 use Rattle.device_docs.specs.declared.changes.Change.{Change}
 

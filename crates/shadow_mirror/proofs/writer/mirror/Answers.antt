@@ -1,4 +1,4 @@
-use Rattle.std.proofs.Common.{◌≡◌, List, fold, sym, ◌∙◌, ap}
+use Rattle.std.proofs.Common.{List, fold, sym, ◌∙◌, ap}
 use Rattle.shadow_mirror.specs.Pasts.{Past}
 use Rattle.shadow_mirror.proofs.Sights.{sights}
 use Rattle.shadow_mirror.proofs.writer.mirror.Goals as goal

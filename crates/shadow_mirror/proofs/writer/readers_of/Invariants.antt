@@ -1,6 +1,5 @@
 use Rattle.std.proofs.Common.{◌≡◌, replicate}
 use Rattle.left_right.specs.Sides.{view}
-use Rattle.shadow_mirror.specs.Readers.{Reading}
 use Rattle.shadow_mirror.proofs.writer.readers_of.Given as goal
 
 abbrev pub invariant-loop : goal.invariant-loop

@@ -1,6 +1,5 @@
-use Rattle.std.proofs.Common.{◌≡◌, drop, fold, refl, sym, ◌∙◌, ap, List, OnOk}
+use Rattle.std.proofs.Common.{◌≡◌, drop, fold, refl, sym, ◌∙◌, ap}
 use Rattle.shadow_mirror.specs.Pasts.{Past}
-use Rattle.shadow_mirror.specs.Known.{known_of}
 use Rattle.shadow_mirror.proofs.Sights.{sights, appended, shows, knows}
 use Rattle.left_right.specs.Sides.{view}
 use Rattle.shadow_mirror.proofs.writer.show.Goals as goal

@@ -1,6 +1,5 @@
-use Rattle.std.proofs.Common.{◌≡◌, ◌++◌, length, refl, sym, ap, ◌∙◌, rules}
-use Rattle.shadow_mirror.specs.Pasts.{Past}
-use Rattle.shadow_mirror.proofs.Published.{all_logged, next_is, shown_is}
+use Rattle.std.proofs.Common.{rules}
+use Rattle.shadow_mirror.proofs.Published.{all_logged, shown_is}
 use Rattle.shadow_mirror.proofs.writer.MirrorWriter.publish.Goals as goal
 
 pub returns-clause-ok : goal.returns-clause-ok
