@@ -18,21 +18,21 @@ nothing [] none = refl
 nothing (Publish ∷ steps) none = absurd (cc none)
 nothing (Noting c ∷ steps) none = rw none refl
 
-added : (n : Noted) (steps : List MirrorStep) → list_any is_publish steps ≡ true → (fold after n steps).published ≡ n.published ++ n.pending ++ published steps
+publish_behind : (n : Noted) (steps : List MirrorStep) (b : Bool) → list_any is_publish steps ≡ b
+    → (fold after (after n Publish) steps).published ≡ (n.published ++ n.pending) ++ (if b then published steps else []) → (fold after (after n Publish) steps).published ≡ n.published ++ (n.pending ++ published steps)
+publish_behind n steps true some is = is ∙ append_assoc n.published n.pending (published steps)
+publish_behind n steps false none is = is ∙ append_assoc n.published n.pending [] ∙ ap (λ (l : List Change). n.published ++ (n.pending ++ l)) (sym (nothing steps none))
 
--- where the last publish has come, or is to come
-published_behind : (n : Noted) (steps : List MirrorStep) (b : Bool) → list_any is_publish steps ≡ b → (fold after (after n Publish) steps).published ≡ n.published ++ n.pending ++ published steps
-published_behind n steps true some = added (after n Publish) steps some
-published_behind n steps false none = kept (after n Publish) steps none ∙ sym (append-nil (n.published ++ n.pending)) ∙ ap (λ (l : List Change). n.published ++ n.pending ++ l) (sym (nothing steps none))
-
-added n [] some = absurd (cc some)
-added n (Publish ∷ steps) some = published_behind n steps (list_any is_publish steps) refl
-added n (Noting c ∷ steps) some =
-    added (after n (Noting c)) steps some ∙ ap (λ (l : List Change). l ++ published steps) (sym (append_assoc n.published n.pending (c ∷ []))) ∙ append_assoc (n.published ++ n.pending) (c ∷ []) (published steps)
-    ∙ rw some refl
+-- behind all steps, what was published and, where one of them publishes, what waited and each change that a publish comes behind
+pub behind_all : (n : Noted) (steps : List MirrorStep) (b : Bool) → list_any is_publish steps ≡ b → (fold after n steps).published ≡ n.published ++ (if b then n.pending ++ published steps else [])
+behind_all n steps false none = kept n steps none ∙ sym (append-nil n.published)
+behind_all n [] true some = absurd (cc some)
+behind_all n (Publish ∷ steps) true some = publish_behind n steps (list_any is_publish steps) refl (behind_all (after n Publish) steps (list_any is_publish steps) refl)
+behind_all n (Noting c ∷ steps) true some =
+    behind_all (after n (Noting c)) steps true some ∙ ap (λ (l : List Change). n.published ++ l) (append_assoc n.pending (c ∷ []) (published steps)) ∙ rw some refl
 
 published_by : (steps : List MirrorStep) (b : Bool) → list_any is_publish steps ≡ b → (fold after none_noted steps).published ≡ published steps
-published_by steps true some = added none_noted steps some
+published_by steps true some = behind_all none_noted steps true some
 published_by steps false none = kept none_noted steps none ∙ sym (nothing steps none)
 
 pub published_is : (steps : List MirrorStep) → (fold after none_noted steps).published ≡ published steps

@@ -50,16 +50,15 @@ fn text_of<R: Threads + Wait + Sync>(
     ensures { IfOk result (λ page. (ahead : List ℕ) × (length ahead ≡ words.now.readers) × (page ≡ (mirror_answer words.now steps ahead).text)) }
 {
     let key = Text::from_str(alloc, first_key(steps.as_slice()))?;
-    let (writer, readers) = mirror(rt, alloc, words.readers)?;
-    let (writer, written, all) = run(
+    let (mut writer, readers) = mirror(rt, alloc, words.readers)?;
+    let (written, all) = run(
         rt,
-        writer,
+        &mut writer,
         readers,
         steps.into_vec(),
         key.as_str(),
         words.reads,
     );
-    let mut writer = writer;
     let text = match written {
         Ok(()) => text_behind(rt, alloc, &mut writer, all, key.as_str(), words.reads),
         Err(e) => Err(e),

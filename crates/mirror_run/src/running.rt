@@ -1,6 +1,6 @@
 //! The run of a mirror: its caller writes while each reader reads on a thread of its own, and then reads once more.
 
-ghost use Rattle.std.specs.Prelude.{◌≡◌, ◌<◌, ◌≤◌, ℕ, All, fold, slice_index_or, vec_len, IfOk, OnOk};
+ghost use Rattle.std.specs.Prelude.{◌≡◌, ◌<◌, ◌≤◌, ℕ, All, fold, slice_index_or, vec_len, IfSome, IfOk, OnOk};
 ghost use Rattle.shadow_mirror.specs.Documents.{doc};
 ghost use Rattle.mirror_run.specs.Noted.{after, noted_of};
 
@@ -14,48 +14,44 @@ use std::thread::Threads;
 /// The readers that have read, where memory didn't run out.
 pub(crate) type Readers = Vec<Result<MirrorReader, AllocError>>;
 
-/// The caller does the steps while the readers read. The writer comes back, with what came of the steps and of the reading.
+/// The caller does the steps while the readers read. What came of the steps, and of the reading.
 pub(crate) fn run<R: Threads + Wait + Sync>(
     rt: &R,
-    writer: MirrorWriter,
+    writer: &mut MirrorWriter,
     readers: Vec<MirrorReader>,
     steps: Vec<MirrorStep>,
     key: &str,
     reads: u32,
-) -> (
-    MirrorWriter,
-    Result<(), AllocError>,
-    Result<Readers, AllocError>,
-)
-    ensures book { result.0.published.book ≡ writer.published.book }
-    ensures steps { OnOk result.1 (noted_of result.0 ≡ fold after (noted_of writer) steps.items) }
-    ensures count { IfOk result.2 (λ all. vec_len all ≡ vec_len readers) }
-    ensures readers { IfOk result.2 (λ all. (i : ℕ) (d : _) (e : _) → i < vec_len readers → IfOk (slice_index_or all.items i d) (λ reader. reader.book ≡ (slice_index_or readers.items i e).book)) }
+) -> (Result<(), AllocError>, Result<Readers, AllocError>)
+    ensures book { writer.new.published.book ≡ writer.old.published.book }
+    ensures steps { OnOk result.0 (noted_of writer.new ≡ fold after (noted_of writer.old) steps.items) }
+    ensures count { IfOk result.1 (λ all. vec_len all ≡ vec_len readers) }
+    ensures readers { IfOk result.1 (λ all. (i : ℕ) (d : _) (e : _) → i < vec_len readers → IfOk (slice_index_or all.items i d) (λ reader. reader.book ≡ (slice_index_or readers.items i e).book)) }
 {
-    let ((writer, written), all) = thread::join(
+    let mut steps = Some(steps);
+    let mut readers = Some(readers);
+    thread::join_mut(
         rt,
-        move || write_steps(rt, writer, steps),
-        move || read_all(rt, readers, key, reads),
-    );
-    (writer, written, all)
+        &mut || write_steps(rt, writer, steps.take()),
+        &mut || read_all(rt, readers.take(), key, reads),
+    )
 }
 
 /// Notes and publishes, step by step.
 fn write_steps<R: Wait>(
     rt: &R,
-    writer: MirrorWriter,
-    steps: Vec<MirrorStep>,
-) -> (MirrorWriter, Result<(), AllocError>)
-    ensures book { result.0.published.book ≡ writer.published.book }
-    ensures steps { OnOk result.1 (noted_of result.0 ≡ fold after (noted_of writer) steps.items) }
+    writer: &mut MirrorWriter,
+    steps: Option<Vec<MirrorStep>>,
+) -> Result<(), AllocError>
+    ensures book { writer.new.published.book ≡ writer.old.published.book }
+    ensures steps { OnOk result (IfSome steps (λ all. noted_of writer.new ≡ fold after (noted_of writer.old) all.items)) }
 {
-    let mut writer = writer;
-    for step in steps {
-        if let Err(e) = write_step(rt, &mut writer, step) {
-            return (writer, Err(e));
+    if let Some(steps) = steps {
+        for step in steps {
+            write_step(rt, writer, step)?;
         }
     }
-    (writer, Ok(()))
+    Ok(())
 }
 
 fn write_step<R: Wait>(
@@ -78,14 +74,17 @@ fn write_step<R: Wait>(
 /// Each reader reads on a thread of its own. All are joined.
 fn read_all<R: Threads + Wait + Sync>(
     rt: &R,
-    readers: Vec<MirrorReader>,
+    readers: Option<Vec<MirrorReader>>,
     key: &str,
     reads: u32,
 ) -> Result<Readers, AllocError>
-    ensures count { IfOk result (λ all. vec_len all ≡ vec_len readers) }
-    ensures readers { IfOk result (λ all. (i : ℕ) (d : _) (e : _) → i < vec_len readers → IfOk (slice_index_or all.items i d) (λ reader. reader.book ≡ (slice_index_or readers.items i e).book)) }
+    ensures count { IfOk result (λ all. IfSome readers (λ before. vec_len all ≡ vec_len before)) }
+    ensures readers { IfOk result (λ all. IfSome readers (λ before. (i : ℕ) (d : _) (e : _) → i < vec_len before → IfOk (slice_index_or all.items i d) (λ reader. reader.book ≡ (slice_index_or before.items i e).book))) }
 {
-    thread::map_vec(rt, readers, &|reader| read_often(rt, reader, key, reads))
+    match readers {
+        Some(readers) => thread::map_vec(rt, readers, &|reader| read_often(rt, reader, key, reads)),
+        None => Err(AllocError),
+    }
 }
 
 fn read_often<R: Wait>(
