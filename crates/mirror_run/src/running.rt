@@ -46,10 +46,22 @@ fn write_steps<R: Wait>(
     ensures book { writer.new.published.book ≡ writer.old.published.book }
     ensures steps { OnOk result (IfSome steps (λ all. noted_of writer.new ≡ fold after (noted_of writer.old) all.items)) }
 {
-    if let Some(steps) = steps {
-        for step in steps {
-            write_step(rt, writer, step)?;
-        }
+    match steps {
+        Some(steps) => write_each(rt, writer, steps),
+        None => Ok(()),
+    }
+}
+
+fn write_each<R: Wait>(
+    rt: &R,
+    writer: &mut MirrorWriter,
+    steps: Vec<MirrorStep>,
+) -> Result<(), AllocError>
+    ensures book { writer.new.published.book ≡ writer.old.published.book }
+    ensures steps { OnOk result (noted_of writer.new ≡ fold after (noted_of writer.old) steps.items) }
+{
+    for step in steps {
+        write_step(rt, writer, step)?;
     }
     Ok(())
 }
