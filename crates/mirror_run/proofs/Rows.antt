@@ -1,5 +1,6 @@
 -- The rows of readers, and numbers in decimal.
-use Rattle.std.proofs.Common.{◌≡◌, ℕ, ◌+◌, List, [], ◌∷◌, ◌++◌, take, length, refl, ap, sym, ◌∙◌, arith}
+use Rattle.std.proofs.Common.{◌≡◌, ◌<◌, ℕ, ◌+◌, List, [], ◌∷◌, ◌++◌, take, get_or, length, refl, ap, sym, ◌∙◌, arith, length-take-le}
+use Rattle.std.proofs.lemmas.List.{take_more}
 use Rattle.mirror_run.specs.Answers.{numbered}
 
 numbered_from : (n m : ℕ) (xs : List ℕ) (v : ℕ) → m ≡ n + length xs → numbered n (xs ++ v ∷ []) ≡ numbered n xs ++ (m, v) ∷ []
@@ -8,3 +9,7 @@ numbered_from n m (x ∷ xs) v is = ap (λ rows. (n, x) ∷ rows) (numbered_from
 
 pub numbered_more : (xs : List ℕ) (v : ℕ) → numbered 0 (xs ++ v ∷ []) ≡ numbered 0 xs ++ (length xs, v) ∷ []
 numbered_more xs v = numbered_from 0 (length xs) xs v (omega arith)
+
+-- one more row
+pub row_more : (versions : List ℕ) (i v : ℕ) (d : ℕ) → i < length versions → v ≡ get_or versions i d → numbered 0 (take i versions) ++ (i, v) ∷ [] ≡ numbered 0 (take (i + 1) versions)
+row_more versions i v d within is = sym (numbered_from 0 i (take i versions) v (omega (arith, length-take-le i versions (omega (arith, within))))) ∙ ap (numbered 0) (ap (λ x. take i versions ++ x ∷ []) is ∙ sym (take_more versions i d within))
