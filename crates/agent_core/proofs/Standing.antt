@@ -1,6 +1,6 @@
 -- What is kept stands for a journal: at first, and behind each entry.
 use Rattle.std.proofs.Common.{◌≡◌, ◌≢◌, ◌<◌, ℕ, Bool, true, false, List, [], ◌∷◌, ◌++◌, length, replicate, Option, Some, None, is_some, ◌+◌, inl, inr, refl, ap, sym, ◌∙◌, subst, arith}
-use Rattle.std.specs.Prelude.{slice_index_or, get_or}
+use Rattle.std.specs.Prelude.{slice_index_or, slice_get, get_or}
 use Rattle.std.specs.List.{list_any}
 use Rattle.std.proofs.lemmas.Bool.{eq-eqb, cases_lt}
 use Rattle.std.proofs.lemmas.List.{append-nil, get_or-replicate, get_or_past, length-replicate}
@@ -15,7 +15,7 @@ use Rattle.agent_journal.specs.declared.request.Request.{Request}
 use Rattle.agent_journal.specs.declared.setup.Phase.{Phase}
 use Rattle.agent_journal.specs.declared.setup.Phase.TheVariants.{Down, Opening, Up, Spilled, Off}
 use Rattle.agent_journal.specs.declared.setup.Setup.{Setup}
-use Rattle.agent_journal.specs.Readings.{Pending, opens, opened_by, sent_id, accepted_of, pending_of, sent_filters}
+use Rattle.agent_journal.specs.Readings.{Pending, opens, opened_by, sent_id, accepted_of, pending_of, takes_of, has_left, sent_filters}
 use Rattle.agent_table.specs.Histories.{IsLegalPast, phase_of, phase_by, readings, row, effects_of, due_by, due_causes}
 use Rattle.agent_table.specs.Readings.{Readings, unless_off}
 use Rattle.agent_table.specs.Routes.{Route, while_opening, renewals_of, routes_of, renewable_of, unsure_of}
@@ -193,6 +193,15 @@ phase_past k phase e past stands = e ∙ stands.keeps.phase
 
 pub count_past : (k : Kept) (count : ℕ) → count ≡ length k.pending → (past : List Entry) → StandsFor k past → count ≡ length (pending_of past)
 count_past k count e past stands = e ∙ ap length stands.keeps.pending
+
+pub taken_past : (k : Kept) (task count : ℕ) → count ≡ slice_index_or k.takes task 0 → (past : List Entry) → StandsFor k past → count ≡ takes_of task past
+taken_past k task count e past stands = e ∙ stands.keeps.takes task
+
+pub left_past : (k : Kept) (task : ℕ) (left : Bool) → left ≡ slice_index_or k.left task false → (past : List Entry) → StandsFor k past → left ≡ has_left task past
+left_past k task left e past stands = e ∙ stands.keeps.left task
+
+pub command_past : (k : Kept) (place : ℕ) (command : Option Pending) → command ≡ slice_get k.pending place → (past : List Entry) → StandsFor k past → command ≡ slice_get (pending_of past) place
+command_past k place command e past stands = e ∙ ap (λ all. slice_get all place) stands.keeps.pending
 
 pub may_past : (k : Kept) (at : ℕ) (cause : Cause) (may : Bool) → may ≡ is_some (row_now k at cause) → (past : List Entry) → StandsFor k past → may ≡ is_some (row k.setup k.sizes past at cause)
 may_past k at cause may e past stands = e ∙ ap is_some (rows_are_same k past at cause stands)

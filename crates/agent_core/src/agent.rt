@@ -20,6 +20,7 @@ mod resumed;
 mod rows;
 mod steps;
 mod taken;
+mod tasks;
 
 use agent_journal::{Cause, Entry, OffBy, Phase, Setup, Why};
 use pending_acks::PendingAcks;

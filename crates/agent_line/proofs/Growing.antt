@@ -19,7 +19,7 @@ use Rattle.agent_line.specs.Told.{Told}
 now_read : (at : ℕ) → Contains (at ∷ []) at
 now_read at = (0, omega arith, refl)
 
-both_read : (readings : List ℕ) (xs ys : List Entry) → AreReadings readings xs → AreReadings readings ys → AreReadings readings (xs ++ ys)
+pub both_read : (readings : List ℕ) (xs ys : List Entry) → AreReadings readings xs → AreReadings readings ys → AreReadings readings (xs ++ ys)
 both_read readings [] ys h k = k
 both_read readings (e ∷ xs) ys h k = (h.0, both_read readings xs ys h.1 k)
 

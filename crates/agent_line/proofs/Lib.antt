@@ -8,3 +8,4 @@ pub mod Growing
 pub mod Receiving
 pub mod Breaking
 pub mod Turns
+pub mod Timing

@@ -7,6 +7,7 @@ use Rattle.agent_journal.specs.declared.entry.Entry.{Entry}
 use Rattle.agent_journal.specs.declared.effect.Effect.{Effect}
 use Rattle.agent_journal.specs.declared.setup.Setup.{Setup}
 use Rattle.agent_journal.specs.declared.setup.Phase.{Phase}
+use Rattle.agent_journal.specs.Readings.{Pending}
 use Rattle.agent_journal.specs.Wires.{AreReadings}
 use Rattle.agent_table.specs.Histories.{phase_of, row, due_by, readings}
 use Rattle.agent_table.specs.Rows.{Row}
@@ -36,6 +37,10 @@ pub record Makes (old : Recorded) (at : ℕ) (cause : Cause) (new : Recorded) : 
   pub found : Row
   pub is : row_in old at cause ≡ Some found
   pub newest : new ≡ with_row old at cause found
+
+-- the task and the number of an open command
+abbrev pub command_of : Pending → ℕ × ℕ
+command_of command = (command.task, command.seq)
 
 abbrev pub newest_effects : List Entry → List Effect
 newest_effects [] = []

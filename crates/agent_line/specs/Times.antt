@@ -1,5 +1,5 @@
 -- Each entry's time is a reading of the clock.
-use Rattle.std.specs.Prelude.{◌≡◌, ℕ, List, ◌++◌, Option, Some, None}
+use Rattle.std.specs.Prelude.{◌≡◌, ℕ, List, [], ◌∷◌, ◌++◌, Option, Some, None}
 use Rattle.agent_journal.specs.declared.entry.Entry.{Entry}
 use Rattle.agent_journal.specs.Wires.{AreReadings}
 
@@ -14,3 +14,7 @@ pub record Timed (first : Option (List ℕ)) (past : List Entry) (now : Option (
   pub readings : List ℕ
   pub read : FollowsReadings first readings now
   pub times : AreReadings readings past
+
+-- Entries of this time may be added: where the times of those so far are readings, those of all are.
+abbrev pub KeepsTimes : List Entry → Option (List ℕ) → ℕ → Option (List ℕ) → Type 0
+KeepsTimes past before at now = (first : Option (List ℕ)) → Timed first past before → (more : List Entry) → AreReadings (at ∷ []) more → Timed first (more ++ past) now

@@ -5,9 +5,11 @@
 mod line;
 mod recorder;
 mod telling;
+mod time;
 mod wire;
 
 pub use line::{Came, Line};
 pub use recorder::Recorder;
 pub use telling::Telling;
+pub use time::read;
 pub use wire::spell;

@@ -1,13 +1,14 @@
 //! An agent that keeps its journal.
 
-ghost use Rattle.std.specs.Prelude.{◌≡◌, ◌<◌, ◌≤◌, None, [], ◌∷◌, true, reverse, length, is_some, IfOk, IfErr, OnOk, OnErr};
+ghost use Rattle.std.specs.Prelude.{◌≡◌, ◌<◌, ◌≤◌, None, [], ◌∷◌, true, reverse, length, is_some, slice_get, IfOk, IfErr, OnOk, OnErr};
 ghost use Rattle.std.specs.List.{AllByRecursion};
+ghost use Rattle.std.specs.Option.{option_map};
 ghost use Rattle.agent_journal.specs.Sound.{IsSoundEffect};
-ghost use Rattle.agent_journal.specs.Readings.{pending_of, last_time_of, breaks_of};
+ghost use Rattle.agent_journal.specs.Readings.{pending_of, last_time_of, breaks_of, takes_of, has_left};
 ghost use Rattle.agent_journal.specs.declared.setup.Phase.TheVariants.{Down};
 ghost use Rattle.agent_journal.specs.Setups.{is_client};
 ghost use Rattle.agent_table.specs.Histories.{IsLegalPast};
-ghost use Rattle.agent_line.specs.Recorded.{phase_in, row_in, due_in, Makes, newest_effects};
+ghost use Rattle.agent_line.specs.Recorded.{phase_in, row_in, due_in, Makes, newest_effects, command_of};
 
 use agent_core::Core;
 use agent_journal::{Cause, Effect, Entry, Phase, Setup};
@@ -60,6 +61,38 @@ impl<const ACKS: usize, const IN: usize, const ROUTES: usize> Recorder<ACKS, IN,
         ensures { result ≡ phase_in self.now }
     {
         self.core.phase()
+    }
+
+    /// How the agent was set up.
+    pub fn setup(&self) -> &Setup
+        ensures { result.now ≡ self.now.setup }
+    {
+        self.core.setup()
+    }
+
+    /// How many requests of a task were taken, its Leave among them.
+    pub fn taken(&self, task: u32) -> u64
+        requires task { task < self.now.setup.tasks }
+        ensures { result ≡ takes_of task self.now.past }
+    {
+        self.core.taken(task)
+    }
+
+    /// Whether a task has left.
+    pub fn has_left(&self, task: u32) -> bool
+        requires task { task < self.now.setup.tasks }
+        ensures { result ≡ has_left task self.now.past }
+    {
+        self.core.has_left(task)
+    }
+
+    /// The task and the number of the open command at place `k`, counted from 0 in the order in which they were taken.
+    pub fn open_command(&self, k: usize) -> Option<(u32, u32)>
+        ensures { result ≡ option_map command_of (slice_get (pending_of self.now.past) k) }
+    {
+        self.core
+            .open_command(k)
+            .map(|command| (command.task, command.seq))
     }
 
     /// How many commands are open.

@@ -1,5 +1,5 @@
 -- A valid request of a task that hasn't left has a row in Up and in Off.
-use Rattle.std.proofs.Common.{◌≡◌, ℕ, ◌≤◌, true, false, List, is_some, refl, ap, ◌∙◌, arith}
+use Rattle.std.proofs.Common.{◌≡◌, ℕ, ◌<◌, ◌≤◌, true, false, List, is_some, refl, ap, ◌∙◌, arith}
 use Rattle.std.proofs.lemmas.Bool.{lt-ltb, eq-eqb}
 use Rattle.mqtt_packet.specs.declared.qos.Qos.{Qos}
 use Rattle.mqtt_packet.specs.declared.qos.Qos.TheVariants.{AtMostOnce, AtLeastOnce, ExactlyOnce}
@@ -41,17 +41,27 @@ module _ (s : Setup) (l : Sizes) (r : Readings) where
   off_some task seq requests.Terminate = refl
   off_some task seq requests.Leave = refl
 
-  may_take_now : (request : Request) → s.tasks ≡ 1 → r.left 0 ≡ false → is_valid request ≡ true → takes.may_take s r 0 (r.takes 0) request ≡ true
+  may_take_now : (task seq : ℕ) (request : Request) → task < s.tasks → r.left task ≡ false → seq ≡ r.takes task → is_valid request ≡ true → takes.may_take s r task seq request ≡ true
   unfolding takes.may_take
-  may_take_now request one left valid = rw (lt-ltb 0 s.tasks (omega (arith, one)), left, eq-eqb (r.takes 0) (r.takes 0) refl, valid) refl
+  may_take_now task seq request known left turn valid = rw (lt-ltb task s.tasks known, left, eq-eqb seq (r.takes task) turn, valid) refl
 
+  module _ (at : ℕ) (fits : r.last_time ≤ at) (request : Request) (valid : is_valid request ≡ true) where
+    pub taken_up_by : (task seq : ℕ) → task < s.tasks → r.left task ≡ false → seq ≡ r.takes task → r.phase ≡ Up → is_some (row_of s l r at (c.Take task seq request)) ≡ true
+    unfolding takes.take_row
+    taken_up_by task seq known left turn is =
+        ap is_some (timely s l r at (c.Take task seq request) fits)
+        ∙ rw (may_take_now task seq request known left turn valid) (ap (λ phase. is_some (takes.take_in s l r task seq request phase)) is ∙ up_some task seq request)
+
+    pub taken_off_by : (task seq : ℕ) → task < s.tasks → r.left task ≡ false → seq ≡ r.takes task → r.phase ≡ Off → is_some (row_of s l r at (c.Take task seq request)) ≡ true
+    unfolding takes.take_row
+    taken_off_by task seq known left turn is =
+        ap is_some (timely s l r at (c.Take task seq request) fits)
+        ∙ rw (may_take_now task seq request known left turn valid) (ap (λ phase. is_some (takes.take_in s l r task seq request phase)) is ∙ off_some task seq request)
+
+  -- the same of the one task of a replay
   module _ (at : ℕ) (fits : r.last_time ≤ at) (request : Request) (one : s.tasks ≡ 1) (left : r.left 0 ≡ false) (valid : is_valid request ≡ true) where
     pub taken_up : r.phase ≡ Up → is_some (row_of s l r at (c.Take 0 (r.takes 0) request)) ≡ true
-    unfolding takes.take_row
-    taken_up is =
-        ap is_some (timely s l r at (c.Take 0 (r.takes 0) request) fits) ∙ rw (may_take_now request one left valid) (ap (λ phase. is_some (takes.take_in s l r 0 (r.takes 0) request phase)) is ∙ up_some 0 (r.takes 0) request)
+    taken_up is = taken_up_by at fits request valid 0 (r.takes 0) (omega (arith, one)) left refl is
 
     pub taken_off : r.phase ≡ Off → is_some (row_of s l r at (c.Take 0 (r.takes 0) request)) ≡ true
-    unfolding takes.take_row
-    taken_off is =
-        ap is_some (timely s l r at (c.Take 0 (r.takes 0) request) fits) ∙ rw (may_take_now request one left valid) (ap (λ phase. is_some (takes.take_in s l r 0 (r.takes 0) request phase)) is ∙ off_some 0 (r.takes 0) request)
+    taken_off is = taken_off_by at fits request valid 0 (r.takes 0) (omega (arith, one)) left refl is

@@ -25,6 +25,3 @@ pub use link::Link;
 pub use mqtt_packet::{NoMemory, Packet, Qos, Resend};
 pub use replies::Replies;
 pub use session::Session;
-
-#[cfg(test)]
-mod tests;

@@ -19,6 +19,3 @@ pub use faults::WordsFault;
 pub use laws::options_are_spelled;
 pub use messages::explain;
 pub use words::{BrokerWords, FetchWords, RunWords, Size, Words, WorldWords};
-
-#[cfg(test)]
-mod tests;

@@ -25,6 +25,3 @@ pub use updates::{JobStatus, write_update};
 
 /// Want of memory.
 pub type NoMemory = std::alloc::AllocError;
-
-#[cfg(test)]
-mod tests;

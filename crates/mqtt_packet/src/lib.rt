@@ -47,6 +47,3 @@ pub type Resend = Seq<Packet>;
 
 /// Want of memory.
 pub type NoMemory = std::alloc::AllocError;
-
-#[cfg(test)]
-mod tests;

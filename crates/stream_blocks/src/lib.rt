@@ -25,6 +25,3 @@ pub use request::{AskBlocks, read_request, write_request};
 
 /// Want of memory.
 pub type NoMemory = std::alloc::AllocError;
-
-#[cfg(test)]
-mod tests;

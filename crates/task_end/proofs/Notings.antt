@@ -16,10 +16,10 @@ use Rattle.task_queues.specs.declared.note.Note.{Note}
 use Rattle.task_queues.specs.declared.note.Note.TheVariants as notes
 use Rattle.task_queues.specs.declared.submission.Submission.{Submission}
 use Rattle.task_queues.specs.Submissions.{request_of, seq_of}
-use Rattle.task_queues.specs.Fronts.{front_in}
+use Rattle.task_queues.specs.Fronts.{front_in, number_in}
 use Rattle.task_queues.specs.MailboxPasses.{Getting}
 use Rattle.task_end.specs.declared.command.Command.{Command}
-use Rattle.task_end.specs.Notes.{outcome_in, outcomes_in, message_in, messages_in, closes, has_closed, completed_in, seen_by, number_in, counted}
+use Rattle.task_end.specs.Notes.{outcome_in, outcomes_in, message_in, messages_in, closes, has_closed, completed_in, seen_by, counted}
 use Rattle.task_end.specs.Commands.{IsTakenFrom, Has, numbers_in, waiting, IsOnce, WasTold, IsStray, IsOtherOrBehind, NoneIsStray, Ends, EndsOne, tickets_of}
 use Rattle.task_end.specs.Sides.{TaskSide, IsFrontOf, IsBelow, IsKept}
 use Rattle.task_end.proofs.Lists.{times_both, one, once_lt}

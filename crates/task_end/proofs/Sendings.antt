@@ -17,11 +17,11 @@ use Rattle.command_pool.proofs.Held.{times-without_same, times-without_other}
 use Rattle.task_queues.specs.declared.note.Note.{Note}
 use Rattle.task_queues.specs.declared.submission.Submission.{Submission}
 use Rattle.task_queues.specs.Submissions.{request_of, seq_of}
-use Rattle.task_queues.specs.Fronts.{front_in, front_of}
+use Rattle.task_queues.specs.Fronts.{front_in, front_of, number_in}
 use Rattle.task_queues.specs.QueuePasses.{Sending}
 use Rattle.task_end.specs.declared.command.Command.{Command}
 use Rattle.task_end.specs.declared.ticket.Ticket.{Ticket}
-use Rattle.task_end.specs.Notes.{outcomes_in, completed_in, seen_by, number_in, counted}
+use Rattle.task_end.specs.Notes.{outcomes_in, completed_in, seen_by, counted}
 use Rattle.task_end.specs.Commands.{IsTakenFrom, Has, ticket_of, numbers_in, tickets_of, waits, waiting, IsOnce, WasTold, IsStray, IsOtherOrBehind, NoneIsStray, command, is_kept}
 use Rattle.task_end.specs.Sides.{TaskSide, IsOut, IsFrontOf, IsBelow, IsKept, noted, front_noted, fronts_noted, front_part}
 use Rattle.task_end.specs.declared.log.TaskLog.{TaskLog}

@@ -8,9 +8,9 @@ use Rattle.command_pool.specs.Rule.{once_below}
 use Rattle.task_queues.specs.declared.note.Note.{Note}
 use Rattle.task_queues.specs.declared.submission.Submission.{Submission}
 use Rattle.task_queues.specs.Submissions.{request_of, seq_of}
-use Rattle.task_queues.specs.Fronts.{front_of, front_in}
+use Rattle.task_queues.specs.Fronts.{front_of, front_in, number_in}
 use Rattle.task_end.specs.declared.command.Command.{Command}
-use Rattle.task_end.specs.Notes.{outcomes_in, completed_in, number_in}
+use Rattle.task_end.specs.Notes.{outcomes_in, completed_in}
 
 -- x stands in the one list, which without it is the other.
 pub record IsTakenFrom {A : Type 0} (x : A) (all rest : List A) : Type 0 where

@@ -1,12 +1,12 @@
 -- What a task makes of the notes that it took in, which stand in the order in which they came.
-use Rattle.std.specs.Prelude.{◌≡◌, ℕ, ◌+◌, ◌^◌, ◌-◌, Bool, true, false, List, [], ◌∷◌, map, max, min, length, Option, None, Some}
+use Rattle.std.specs.Prelude.{◌≡◌, ℕ, ◌+◌, ◌^◌, ◌-◌, Bool, true, false, List, [], ◌∷◌, map, max, min, length}
 use Rattle.std.specs.List.{flat_map, list_any}
 use Rattle.front_board.specs.Ends.{Marked}
 use Rattle.agent_journal.specs.declared.message.Message.{Message}
 use Rattle.agent_journal.specs.declared.outcome.Outcome.{Outcome}
 use Rattle.task_queues.specs.declared.note.Note.{Note}
 use Rattle.task_queues.specs.declared.note.Note.TheVariants as notes
-use Rattle.task_queues.specs.Fronts.{front_in}
+use Rattle.task_queues.specs.Fronts.{front_in, number_in}
 
 -- the completion that a note tells: the command's number, and how it ended
 abbrev pub outcome_in : Note → List (ℕ × Outcome)
@@ -38,11 +38,6 @@ has_closed all = list_any closes all
 -- the numbers of the commands that were completed
 abbrev pub completed_in : List Note → List ℕ
 completed_in all = map (λ done. done.0) (outcomes_in all)
-
--- the length of the journal that a mark tells, 0 where there is none
-abbrev pub number_in : Option Marked → ℕ
-number_in None = 0
-number_in (Some mark) = mark.number
 
 -- How much of the journal a task knows of that was told these notes: as much as the farthest of their marks says.
 abbrev pub seen_by : List Note → ℕ

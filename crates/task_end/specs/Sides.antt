@@ -15,10 +15,10 @@ use Rattle.task_queues.specs.declared.submission.Submission.{Submission}
 use Rattle.task_queues.specs.QueuePasses.{Sending}
 use Rattle.task_queues.specs.MailboxPasses.{Getting, WasEmpty}
 use Rattle.task_queues.specs.Submissions.{request_of, seq_of}
-use Rattle.task_queues.specs.Fronts.{front_of}
+use Rattle.task_queues.specs.Fronts.{front_of, number_in}
 use Rattle.task_end.specs.declared.command.Command.{Command}
 use Rattle.task_end.specs.declared.ticket.Ticket.{Ticket}
-use Rattle.task_end.specs.Notes.{outcomes_in, messages_in, has_closed, seen_by, counted, number_in}
+use Rattle.task_end.specs.Notes.{outcomes_in, messages_in, has_closed, seen_by, counted}
 use Rattle.task_end.specs.Commands.{IsTakenFrom, Has, numbers_in, waiting, IsOnce, WasTold, NoneIsStray}
 
 -- The passes of a task: what it holds of the pool, what it sent and what it got. The tickets that are out, the oldest first, each

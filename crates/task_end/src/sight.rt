@@ -1,8 +1,7 @@
 //! How much of the journal a task knows of.
 
 ghost use Rattle.std.specs.Prelude.{◌≡◌, max};
-ghost use Rattle.task_queues.specs.Fronts.{IsOn};
-ghost use Rattle.task_end.specs.Notes.{number_in};
+ghost use Rattle.task_queues.specs.Fronts.{IsOn, number_in};
 
 use front_board::{FrontBoard, FrontPass, Mark, Named};
 use std::alloc::Global;

@@ -1,5 +1,5 @@
 -- Marks that go through a queue or a mailbox. A mark says how much of the journal its maker had seen.
-use Rattle.std.specs.Prelude.{◌≡◌, ℕ, ◌≤◌, List, [], Option, IfSome, is_none, length}
+use Rattle.std.specs.Prelude.{◌≡◌, ℕ, ◌≤◌, List, [], Option, Some, None, IfSome, is_none, length}
 use Rattle.atomic_table.specs.Seated.{TableId}
 use Rattle.agent_journal.specs.declared.outcome.Outcome.{Outcome}
 use Rattle.agent_journal.specs.declared.outcome.Outcome.TheVariants as outcomes
@@ -17,6 +17,11 @@ abbrev pub front_in : Note → Option Marked
 front_in (notes.Done seq outcome at front) = front
 front_in (notes.Message message at front) = front
 front_in (notes.Closed at front) = front
+
+-- the length of the journal that a mark tells, 0 where there is none
+abbrev pub number_in : Option Marked → ℕ
+number_in None = 0
+number_in (Some mark) = mark.number
 
 -- the codes of a SUBACK that a note tells, if any
 abbrev pub granted_in : Outcome → List ℕ

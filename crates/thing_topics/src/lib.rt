@@ -22,6 +22,3 @@ pub use laws::{
 pub use shadows::{ShadowKind, ShadowMatch, match_shadow, shadow_topic};
 pub use streams::{StreamKind, StreamMatch, match_stream, stream_topic};
 pub use topic_text::TopicText;
-
-#[cfg(test)]
-mod tests;

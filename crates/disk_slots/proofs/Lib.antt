@@ -1,0 +1,5 @@
+mod Marks
+mod Crashes
+mod Slots
+mod Stages
+mod Frames

@@ -1,0 +1,5 @@
+pub mod Disks
+pub mod Memory
+pub mod Fitting
+pub mod Slots
+pub mod Files

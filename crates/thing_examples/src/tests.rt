@@ -1,0 +1,5 @@
+//! A file for each crate whose calls are made.
+
+mod blocks;
+mod documents;
+mod topics;
