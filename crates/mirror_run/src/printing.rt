@@ -29,7 +29,6 @@ pub(crate) fn page_of(
 }
 
 /// The versions, each with its reader's number.
-#[tactic(auto, using(crate::proofs::Rows::row_more))]
 fn rows_of(alloc: Global, versions: &[u64]) -> Result<Vec<(u64, u64)>, AllocError>
     ensures { IfOk result (λ rows. rows.items ≡ numbered 0 versions.now) }
 {

@@ -122,7 +122,7 @@ pub(crate) fn last_versions<R: Wait>(
     readers: Readers,
     key: &str,
 ) -> Result<Vec<u64>, AllocError>
-    requires { (i : ℕ) (d : _) → i < vec_len readers → IfOk (slice_index_or readers.items i d) (λ reader. reader.book ≡ writer.old.published.book) }
+    requires { All (λ reader. IfOk reader (λ r. r.book ≡ writer.old.published.book)) readers.items }
     ensures kept { writer.new ≡ writer.old }
     ensures count { IfOk result (λ versions. vec_len versions ≡ vec_len readers) }
     ensures late { IfOk result (λ versions. All (λ version. (doc writer.old.published.changes).version ≤ version) versions.items) }
