@@ -5,7 +5,8 @@ use Rattle.device_docs.specs.declared.changes.Change.{Change}
 use Rattle.mirror_run.specs.declared.steps.MirrorStep.{MirrorStep}
 use Rattle.mirror_run.specs.declared.steps.MirrorStep.TheVariants.{Change as Noting, Publish}
 use Rattle.mirror_run.specs.Answers.{is_publish, published}
-use Rattle.mirror_run.specs.Noted.{Noted, after, none_noted}
+use Rattle.shadow_mirror.specs.Writers.{Writing}
+use Rattle.mirror_run.specs.Noted.{Noted, after, none_noted, noted_of}
 
 -- where none publishes
 kept : (n : Noted) (steps : List MirrorStep) → list_any is_publish steps ≡ false → (fold after n steps).published ≡ n.published
@@ -37,3 +38,8 @@ published_by steps false none = kept none_noted steps none ∙ sym (nothing step
 
 pub published_is : (steps : List MirrorStep) → (fold after none_noted steps).published ≡ published steps
 published_is steps = published_by steps (list_any is_publish steps) refl
+
+-- a writer that had nothing has published these behind all steps
+pub all_published : (old new : Writing) (steps items : List MirrorStep) → noted_of old ≡ none_noted → items ≡ steps → noted_of new ≡ fold after (noted_of old) items → new.published.changes ≡ published steps
+all_published old new steps items fresh same is =
+    ap (λ (n : Noted). n.published) is ∙ ap (λ (n : Noted). (fold after n items).published) fresh ∙ ap (λ l. (fold after none_noted l).published) same ∙ published_is steps

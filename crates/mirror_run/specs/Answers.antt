@@ -1,5 +1,5 @@
 -- What the command `mirror` prints.
-use Rattle.std.specs.Prelude.{ℕ, ◌+◌, ℤ, pos, negsuc, Bool, true, false, List, [], ◌∷◌, ◌++◌, map, flat_map, Result, Ok, Err, if◌then◌else◌, codes, decimal}
+use Rattle.std.specs.Prelude.{◌≡◌, ℕ, ◌+◌, ℤ, pos, negsuc, Bool, true, false, List, [], ◌∷◌, ◌++◌, length, map, flat_map, Result, Ok, Err, if◌then◌else◌, codes, decimal}
 use Rattle.std.specs.List.{list_any}
 use Rattle.command_answers.specs.Answers.{Answer, answer}
 use Rattle.command_answers.specs.Sources.{bad_line, within_limit}
@@ -59,7 +59,11 @@ numbered n (version ∷ versions) = (n, version) ∷ numbered (n + 1) versions
 abbrev pub mirror_text : ℕ → List ℕ → Doc → List ℕ
 mirror_text reads versions d = flat_map (reader_line reads) (numbered 0 versions) ++ flat_map entry_line d.entries ++ codes "ok\n"
 
--- Each reader's last version is that of the published document, or so many later ones.
+-- The text of so many readers and of a document: each reader's last version is the document's, or so much later.
+abbrev pub IsText : ℕ → ℕ → Doc → List ℕ → Type 0
+IsText readers reads d text = (ahead : List ℕ) × (length ahead ≡ readers) × (text ≡ mirror_text reads (map (λ more. d.version + more) ahead) d)
+
+-- The same of these steps, as the command's answer.
 abbrev pub mirror_answer : MirrorWords → List MirrorStep → List ℕ → Answer
 mirror_answer words steps ahead = answer 0 (mirror_text words.reads (map (λ more. (doc (published steps)).version + more) ahead) (doc (published steps)))
 

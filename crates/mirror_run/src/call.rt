@@ -1,9 +1,10 @@
 //! A mirror, from its steps to its text.
 
-ghost use Rattle.std.specs.Prelude.{◌≡◌, ◌≢◌, ◌<◌, ◌≤◌, ◌+◌, ℕ, List, length, map, All, slice_index_or, vec_len, fold, IfOk, OnOk};
+ghost use Rattle.std.specs.Prelude.{◌≡◌, ◌≢◌, ◌<◌, ◌≤◌, ℕ, List, length, All, IfOk};
 ghost use Rattle.command_answers.specs.Answers.{Ends, sink_now};
 ghost use Rattle.shadow_mirror.specs.Documents.{doc};
-ghost use Rattle.mirror_run.specs.Answers.{mirror_answer, mirror_text, published};
+ghost use Rattle.mirror_run.specs.Answers.{IsText, mirror_answer, published};
+ghost use Rattle.mirror_run.specs.Noted.{none_noted, noted_of};
 
 use crate::printing::page_of;
 use crate::running::{Readers, last_versions, run};
@@ -12,7 +13,7 @@ use crate::words::MirrorWords;
 use agent_link::{Page, Sink};
 use command_answers::finish;
 use list_types::Text;
-use shadow_mirror::{MirrorWriter, mirror};
+use shadow_mirror::{MirrorReader, MirrorWriter, mirror};
 use std::alloc::{AllocError, Global};
 use std::sync::Wait;
 use std::thread::Threads;
@@ -47,22 +48,19 @@ fn text_of<R: Threads + Wait + Sync>(
     steps: MirrorSteps,
 ) -> Result<Page, AllocError>
     requires readers { (0 < words.now.readers) × (words.now.readers ≤ 8) }
-    ensures { IfOk result (λ page. (ahead : List ℕ) × (length ahead ≡ words.now.readers) × (page ≡ (mirror_answer words.now steps ahead).text)) }
+    ensures { IfOk result (λ page. IsText words.now.readers words.now.reads (doc (published steps)) page) }
 {
     let key = Text::from_str(alloc, first_key(steps.as_slice()))?;
     let (mut writer, readers) = mirror(rt, alloc, words.readers)?;
-    let (written, all) = run(
+    let text = mirrored(
         rt,
+        alloc,
         &mut writer,
         readers,
-        steps.into_vec(),
+        steps,
         key.as_str(),
         words.reads,
     );
-    let text = match written {
-        Ok(()) => text_behind(rt, alloc, &mut writer, all, key.as_str(), words.reads),
-        Err(e) => Err(e),
-    };
     writer.close(rt);
     text
 }
@@ -80,19 +78,38 @@ fn first_key(steps: &[MirrorStep]) -> &str {
     ""
 }
 
+/// Does the steps while the readers read, and tells what they read last and what is published.
+fn mirrored<R: Threads + Wait + Sync>(
+    rt: &R,
+    alloc: Global,
+    writer: &mut MirrorWriter,
+    readers: Vec<MirrorReader>,
+    steps: MirrorSteps,
+    key: &str,
+    reads: u32,
+) -> Result<Page, AllocError>
+    requires fresh { noted_of writer.old ≡ none_noted }
+    requires readers { All (λ reader. reader.book ≡ writer.old.published.book) readers.items }
+    ensures { IfOk result (λ page. IsText (length readers.items) reads (doc (published steps)) page) }
+{
+    let (written, all) = run(rt, writer, readers, steps.into_vec(), key, reads);
+    written?;
+    text_behind(rt, alloc, writer, all?, key, reads)
+}
+
 /// The text behind the run: the last reads, and what is published.
 fn text_behind<R: Wait>(
     rt: &R,
     alloc: Global,
     writer: &mut MirrorWriter,
-    all: Result<Readers, AllocError>,
+    readers: Readers,
     key: &str,
     reads: u32,
 ) -> Result<Page, AllocError>
-    requires { IfOk all (λ readers. (i : ℕ) (d : _) → i < vec_len readers → IfOk (slice_index_or readers.items i d) (λ reader. reader.book ≡ writer.old.published.book)) }
-    ensures { IfOk all (λ readers. IfOk result (λ page. (ahead : List ℕ) × (length ahead ≡ vec_len readers)
-        × (page ≡ mirror_text reads (map (λ more. (doc writer.old.published.changes).version + more) ahead) (doc writer.old.published.changes)))) }
+    requires { All (λ reader. IfOk reader (λ r. r.book ≡ writer.old.published.book)) readers.items }
+    ensures { IfOk result (λ page. IsText (length readers.items) reads (doc writer.old.published.changes) page) }
 {
-    let versions = last_versions(rt, alloc, writer, all?, key)?;
-    page_of(alloc, reads, versions.as_slice(), writer.published())
+    let versions = last_versions(rt, alloc, writer, readers, key)?;
+    let page = page_of(alloc, reads, versions.as_slice(), writer.published())?;
+    Ok(page)
 }
