@@ -19,9 +19,9 @@ ahead_is n (v ∷ versions) late = ap (λ (k : ℕ). k ∷ map (λ more. n + mor
 pub is_text : (count reads : ℕ) (d shown : Doc) (versions listed text : List ℕ) → listed ≡ versions → shown ≡ d → length versions ≡ count → All (λ version. d.version ≤ version) versions → text ≡ mirror_text reads listed shown
     → IsText count reads d text
 is_text count reads d shown versions listed text same_versions same_doc many late is = (
-    map (λ v. v - d.version) versions,
-    length-map versions (λ v. v - d.version) ∙ many,
-    is ∙ ap (λ l. mirror_text reads l shown) (same_versions ∙ sym (ahead_is d.version versions (recursion_from_All (λ version. d.version ≤ version) versions late))) ∙ ap (mirror_text reads (map (λ more. d.version + more) (map (λ v. v - d.version) versions))) same_doc,
+  map (λ v. v - d.version) versions,
+  length-map versions (λ v. v - d.version) ∙ many,
+  is ∙ ap (λ l. mirror_text reads l shown) (same_versions ∙ sym (ahead_is d.version versions (recursion_from_All (λ version. d.version ≤ version) versions late))) ∙ ap (mirror_text reads (map (λ more. d.version + more) (map (λ v. v - d.version) versions))) same_doc,
 )
 
 -- the readers behind the run are still those of the mirror

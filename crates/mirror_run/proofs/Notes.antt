@@ -1,5 +1,5 @@
 -- What is published behind all steps.
-use Rattle.std.proofs.Common.{◌≡◌, Bool, true, false, List, [], ◌∷◌, ◌++◌, fold, cond, if◌then◌else◌, ◌||◌, refl, sym, ap, ◌∙◌, append_assoc, append-nil}
+use Rattle.std.proofs.Common.{◌≡◌, Bool, true, false, List, [], ◌∷◌, ◌++◌, fold, if◌then◌else◌, refl, sym, ap, ◌∙◌, append_assoc, append-nil}
 use Rattle.std.specs.List.{list_any}
 use Rattle.device_docs.specs.declared.changes.Change.{Change}
 use Rattle.mirror_run.specs.declared.steps.MirrorStep.{MirrorStep}

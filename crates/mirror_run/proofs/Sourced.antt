@@ -1,5 +1,5 @@
 -- How a mirror ends, from its text, its steps or its source.
-use Rattle.std.proofs.Common.{◌≡◌, ℕ, ◌≤◌, List, length, replicate, Option, IfSome, Result, Ok, Err, sym, ap, subst, ◌∙◌, inl, cond}
+use Rattle.std.proofs.Common.{◌≡◌, ℕ, ◌≤◌, List, length, replicate, Option, IfSome, Ok, Err, sym, ap, subst, ◌∙◌, inl, cond}
 use Rattle.std.proofs.lemmas.Bool.{le-ltb}
 use Rattle.std.proofs.lemmas.List.{length-replicate}
 use Rattle.command_answers.specs.Answers.{Answer, Ends, SinkNow, answer}

@@ -126,7 +126,10 @@ fn write_int(page: &mut Page, number: i64) -> Result<(), Fault>
     ensures { OnOk result (page.new ≡ page.old ++ answers.int_text number) }
 {
     if number < 0 {
-        write_parts(page, &[Part::Plain(b"-"), Part::Number(number.unsigned_abs())])
+        write_parts(
+            page,
+            &[Part::Plain(b"-"), Part::Number(number.unsigned_abs())],
+        )
     } else {
         write_parts(page, &[Part::Number(number.unsigned_abs())])
     }

@@ -1,4 +1,4 @@
-use Rattle.std.proofs.Common.{◌≡◌, ◌<◌, ℕ, length, fold, vec_len, slice_index_or, ap, ◌∙◌, arith}
+use Rattle.std.proofs.Common.{◌≡◌, ◌<◌, ℕ, length, fold, vec_len, slice_index_or, ap, arith}
 use Rattle.std.specs.Result.{IfOk}
 use Rattle.std.proofs.lemmas.Result.{IfOk-at_ok, IfOk-weaker}
 use Rattle.shadow_mirror.specs.Documents.{doc}
@@ -14,9 +14,9 @@ text_behind-requires g c =
     let before = c.args.readers in
     let many : vec_len all ≡ vec_len before = IfOk-at_ok (λ (v : _). vec_len v ≡ vec_len before) c.in_ok-all.was c.run-written.ensures.count in
     still_theirs c.args.writer.now.published.book c.run-written.new.writer.published.book before.items all.items c.run-written.ensures.book (omega (arith, many, all.ok.0, before.ok.0)) c.requires.readers
-      (λ i d e within. IfOk-at_ok
-        (λ (v : _). (k : ℕ) (x : _) (y : _) → k < vec_len before → IfOk (slice_index_or v.items k x) (λ r. r.book ≡ (slice_index_or before.items k y).book))
-        c.in_ok-all.was c.run-written.ensures.readers i d e (omega (arith, within, before.ok.0)))
+    (λ i d e within. IfOk-at_ok
+    (λ (v : _). (k : ℕ) (x : _) (y : _) → k < vec_len before → IfOk (slice_index_or v.items k x) (λ r. r.book ≡ (slice_index_or before.items k y).book))
+    c.in_ok-all.was c.run-written.ensures.readers i d e (omega (arith, within, before.ok.0)))
 
 pub returns : goal.returns
 returns g c =
@@ -28,5 +28,5 @@ returns g c =
     let all_of : c.run-written.new.writer.published.changes ≡ published c.args.steps =
     all_published c.args.writer.now c.run-written.new.writer c.args.steps c.into_vec.result.items c.requires.fresh c.into_vec.ensures steps in
     IfOk-weaker c.text_behind.result (λ page. IsText (length all.items) c.args.reads (doc c.run-written.new.writer.published.changes) page) (λ page. IsText (length before.items) c.args.reads (doc (published c.args.steps)) page)
-      (λ page h. same_text (length all.items) (length before.items) c.args.reads (doc c.run-written.new.writer.published.changes) (doc (published c.args.steps)) page (omega (arith, many, all.ok.0, before.ok.0)) (ap doc all_of) h)
-      c.text_behind.ensures
+    (λ page h. same_text (length all.items) (length before.items) c.args.reads (doc c.run-written.new.writer.published.changes) (doc (published c.args.steps)) page (omega (arith, many, all.ok.0, before.ok.0)) (ap doc all_of) h)
+    c.text_behind.ensures

@@ -1,4 +1,4 @@
-use Rattle.std.proofs.Common.{◌≡◌, ◌≤◌, ℕ, List, [], ◌∷◌, ◌++◌, length, ap, subst, ◌∙◌, arith, length-append}
+use Rattle.std.proofs.Common.{◌≡◌, ◌≤◌, [], ◌∷◌, ◌++◌, length, ap, subst, ◌∙◌, arith, length-append}
 use Rattle.std.specs.Result.{IfOk}
 use Rattle.std.specs.Vec.Iter.{into_iter_items}
 use Rattle.std.proofs.lemmas.List.Elements.{All-push, All-rest, All-same}
@@ -23,6 +23,6 @@ loop-reader-preserved g c =
       left = omega (arith, left, gone, shorter);
       count = omega (arith, count, shorter, longer, length-append at.versions.items (version ∷ []));
       late = All-same (λ v. (doc c.args.writer.now.published.changes).version ≤ v) c.push.new.self.items (at.versions.items ++ version ∷ []) items
-        (All-push (λ v. (doc c.args.writer.now.published.changes).version ≤ v) at.versions.items version at.invariant.late
-        (subst (λ (w : Writing). (doc w.published.changes).version ≤ version) at.invariant.kept c.in_ok-last_version.ensures.late));
+          (All-push (λ v. (doc c.args.writer.now.published.changes).version ≤ v) at.versions.items version at.invariant.late
+          (subst (λ (w : Writing). (doc w.published.changes).version ≤ version) at.invariant.kept c.in_ok-last_version.ensures.late));
     }
