@@ -3,7 +3,7 @@
 ghost use Rattle.std.specs.Prelude.{◌≡◌, ◌≢◌, ◌<◌, ◌≤◌, ℕ, List, length};
 ghost use Rattle.agent_link.specs.Counts.{raised};
 ghost use Rattle.command_answers.specs.Answers.{Ends, sink_now};
-ghost use Rattle.command_answers.specs.Sources.{EndsBySource, source_limit, source_now};
+ghost use Rattle.command_answers.specs.Sources.{EndsBySource, source_now};
 ghost use Rattle.mirror_run.specs.Answers.{source_answer, steps_answer};
 ghost use Rattle.mirror_run.specs.Steps.{steps_of};
 

@@ -1,6 +1,6 @@
 //! What a mirror prints: a line for each reader, the published document, and the end.
 
-ghost use Rattle.std.specs.Prelude.{◌≡◌, ◌++◌, ◌+◌, flat_map, codes, IfOk, OnOk};
+ghost use Rattle.std.specs.Prelude.{◌≡◌, ◌++◌, flat_map, codes, IfOk, OnOk};
 ghost use Rattle.mirror_run.specs.Answers as answers;
 ghost use Rattle.mirror_run.specs.Answers.{mirror_text, numbered};
 
@@ -47,7 +47,8 @@ fn write_all(
     rows: &[(u64, u64)],
     entries: &[(Text, Scalar)],
 ) -> Result<(), Fault>
-    ensures { OnOk result (page.new ≡ page.old ++ flat_map (answers.reader_line reads) rows.now ++ flat_map answers.entry_line entries.now ++ codes "ok\n") }
+    ensures { OnOk result (page.new ≡ page.old ++ flat_map (answers.reader_line reads) rows.now
+        ++ flat_map answers.entry_line entries.now ++ codes "ok\n") }
 {
     write_rows(page, reads, rows)?;
     write_entries(page, entries)?;

@@ -26,7 +26,8 @@ pub(crate) fn run<R: Threads + Wait + Sync>(
     ensures book { writer.new.published.book ≡ writer.old.published.book }
     ensures steps { OnOk result.0 (noted_of writer.new ≡ fold after (noted_of writer.old) steps.items) }
     ensures count { IfOk result.1 (λ all. vec_len all ≡ vec_len readers) }
-    ensures readers { IfOk result.1 (λ all. (i : ℕ) (d : _) (e : _) → i < vec_len readers → IfOk (slice_index_or all.items i d) (λ reader. reader.book ≡ (slice_index_or readers.items i e).book)) }
+    ensures readers { IfOk result.1 (λ all. (i : ℕ) (d : _) (e : _) → i < vec_len readers →
+        IfOk (slice_index_or all.items i d) (λ reader. reader.book ≡ (slice_index_or readers.items i e).book)) }
 {
     let mut steps = Some(steps);
     let mut readers = Some(readers);
@@ -91,7 +92,8 @@ fn read_all<R: Threads + Wait + Sync>(
     reads: u32,
 ) -> Result<Readers, AllocError>
     ensures count { IfOk result (λ all. IfSome readers (λ before. vec_len all ≡ vec_len before)) }
-    ensures readers { IfOk result (λ all. IfSome readers (λ before. (i : ℕ) (d : _) (e : _) → i < vec_len before → IfOk (slice_index_or all.items i d) (λ reader. reader.book ≡ (slice_index_or before.items i e).book))) }
+    ensures readers { IfOk result (λ all. IfSome readers (λ before. (i : ℕ) (d : _) (e : _) → i < vec_len before →
+        IfOk (slice_index_or all.items i d) (λ reader. reader.book ≡ (slice_index_or before.items i e).book))) }
 {
     match readers {
         Some(readers) => thread::map_vec(rt, readers, &|reader| read_often(rt, reader, key, reads)),

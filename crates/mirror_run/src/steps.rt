@@ -1,6 +1,6 @@
 //! The steps of a mirror, read from their text.
 
-ghost use Rattle.std.specs.Prelude.{◌≡◌, ◌≤◌, length};
+ghost use Rattle.std.specs.Prelude.{◌≡◌};
 ghost use Rattle.std.specs.Option.{option_map};
 ghost use Rattle.plain_text.specs.Reading.{Gives};
 ghost use Rattle.mirror_run.specs.Steps as steps;
