@@ -1,0 +1,6 @@
+mod StepLoops
+mod Growing
+mod Notes
+mod Rows
+mod Called
+mod Sourced
