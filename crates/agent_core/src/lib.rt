@@ -14,6 +14,6 @@ mod routes;
 mod row;
 mod sends;
 
-pub use agent::Core;
+pub use agent::{Core, Situation};
 pub use agent_journal::{Phase, Setup};
 pub use laws::{only_publishes_wait, rows_are_same, stands_at_first, stands_behind};

@@ -174,8 +174,17 @@ fn hold<const ACKS: usize, const IN: usize>(
     }
 }
 
+/// An identifier that was held is held again.
+pub fn hold_again<const ACKS: usize, const IN: usize>(qos: &mut QosState<ACKS, IN>, id: u16)
+    requires room { length qos.old.held < IN }
+    requires fresh { table.is_among qos.old.held id ≡ false }
+    ensures { qos.new ≡ record qos.old { held = qos.old.held ++ id ∷ [] } }
+{
+    qos.on_publish(id);
+}
+
 /// The first PUBREC of an open QoS 2 publish releases it.
-fn release<const ACKS: usize, const IN: usize>(
+pub fn release<const ACKS: usize, const IN: usize>(
     pending: &PendingAcks<ACKS>,
     qos: &mut QosState<ACKS, IN>,
     id: u16,

@@ -133,11 +133,34 @@ impl<const ACKS: usize, const IN: usize> QosState<ACKS, IN> {
         self.released.get(k).copied()
     }
 
+    /// How many publishes are released. They are at most ACKS.
+    pub fn released_len(&self) -> usize
+        ensures count { result ≡ length self.now.released }
+        ensures most { result ≤ ACKS }
+    {
+        self.released.len()
+    }
+
     /// Whether the publish of an identifier is released.
     pub fn is_released(&self, id: u16) -> bool
         ensures { result ≡ d.is_among self.now.released id }
     {
         self.released.has(id)
+    }
+
+    /// The held identifier at place `k`, counted from 0 in the order in which they came.
+    pub fn held(&self, k: usize) -> Option<u16>
+        ensures { result ≡ slice_get self.now.held k }
+    {
+        self.held.get(k).copied()
+    }
+
+    /// How many identifiers are held. They are at most IN.
+    pub fn held_len(&self) -> usize
+        ensures count { result ≡ length self.now.held }
+        ensures most { result ≤ IN }
+    {
+        self.held.len()
     }
 
     /// A QoS 2 publish came with this identifier.

@@ -1,8 +1,8 @@
 -- That the SUBACK of an open subscribe keeps what is true of the routes at every moment.
-use Rattle.std.proofs.Common.{sym, ◌∙◌, ◌≡◌, ◌<◌, ◌≤◌, ◌==◌, ℕ, zero, suc, Bool, true, false, not, ◌&&◌, ◌||◌, nat_lt, List, [], ◌∷◌, ◌++◌, map, take, drop, length, get_or, Some, None, inl, inr, refl, ap, arith}
+use Rattle.std.proofs.Common.{sym, ◌∙◌, ◌≡◌, ◌<◌, ◌≤◌, ◌==◌, ℕ, zero, suc, Bool, true, false, not, ◌&&◌, ◌||◌, nat_lt, List, [], ◌∷◌, ◌++◌, map, take, drop, length, get_or, Some, None, inl, inr, refl, ap, subst, arith}
 use Rattle.std.specs.List.{list_any, list_all, filter, find, remove, position, position_or_len}
 use Rattle.std.specs.Str.{bytes_eq}
-use Rattle.std.proofs.lemmas.List.{length-map}
+use Rattle.std.proofs.lemmas.List.{length-append, length-map}
 use Rattle.std.proofs.lemmas.List.Folds.{list_all-append, list_any_at, find_at}
 use Rattle.std.proofs.lemmas.Bool.{lt-ltb}
 use Rattle.std.proofs.lemmas.Option.{slice_get_cases}
@@ -17,7 +17,7 @@ use Rattle.subscriptions.specs.Rooms.{IsSound, routes_with, asked_routes, each_o
 use Rattle.subscriptions.specs.Parts.{settled_by}
 use Rattle.subscriptions.proofs.Bools.{left_true, right_true, both_true, either, or_left, or_right}
 use Rattle.subscriptions.proofs.Lists.{any-map, all_at}
-use Rattle.subscriptions.proofs.Sets.{any_with_all, once_with_all}
+use Rattle.subscriptions.proofs.Sets.{any_with_all, once_with_all, once_more}
 use Rattle.subscriptions.proofs.Reached.{any_factor}
 use Rattle.subscriptions.proofs.Counts.{with_longer}
 use Rattle.subscriptions.proofs.Keeping.{kept, kept_changed, granted_as, asked_as}
@@ -219,3 +219,15 @@ granted_as_none id codes k none = rw none refl
 
 pub granted_by_stays : (a : Asked) (filters : List (List ℕ)) (gs : List Granted) → a.left ≡ false → granted_by a filters gs ≡ with_all_granted a.task a.asks (map (renewed_as filters a.asks) gs) filters
 granted_by_stays a filters gs stays = rw stays refl
+
+-- one more route, where nothing is asked for
+pub kept_added : (most : ℕ) (gs : List Granted) (asked : List Asked) (g : Granted) → IsSound most gs asked → asked ≡ [] → length gs < most → has_route (map route_of gs) (route_of g) ≡ false
+    → is_filter g.topics ≡ true → IsSound most (gs ++ g ∷ []) asked
+kept_added most gs asked g s none room fresh own =
+    subst (IsSound most (gs ++ g ∷ [])) (sym none)
+    (record {
+      once = ap each_once (routes_push gs g) ∙ once_more (map route_of gs) (route_of g) s.once fresh;
+      room = omega (arith, length-map (gs ++ g ∷ []) route_of, length-append gs (g ∷ []), room);
+      granted_filters = list_all-append (λ x. is_filter x.topics) gs (g ∷ []) ∙ both_true (list_all (λ x. is_filter x.topics) gs) (is_filter g.topics && true) s.granted_filters (both_true (is_filter g.topics) true own refl);
+      asked_filters = refl;
+    })

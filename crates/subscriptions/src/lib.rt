@@ -11,8 +11,6 @@ mod renewal;
 mod room;
 mod routing;
 
+pub use granted::Granted;
 pub use renewal::Renewal;
 pub use routing::Subscriptions;
-
-#[cfg(test)]
-mod tests;

@@ -1,8 +1,11 @@
 //! What the agent knows of its routes.
 
-ghost use Rattle.std.specs.Prelude.{◌≡◌, ◌<◌, ◌≤◌, true, length, take, drop, ℕ, Bool, Some, IfOk, OnOk, OnErr, IfSome, MatchOption};
-ghost use Rattle.topic_filter.specs.Texts.{is_name};
+ghost use Rattle.std.specs.Prelude.{◌≡◌, ◌<◌, ◌≤◌, true, false, [], ◌∷◌, ◌++◌, length, map, take, drop, slice_get, ℕ, Bool, Some, IfOk, OnOk, OnErr, IfSome, MatchOption};
+ghost use Rattle.std.specs.Option.{option_copied};
+ghost use Rattle.agent_table.specs.Routes.{has_route};
+ghost use Rattle.topic_filter.specs.Texts.{is_filter, is_name};
 ghost use Rattle.subscriptions.specs.Routing as routes;
+ghost use Rattle.subscriptions.specs.Routing.{route_of};
 ghost use Rattle.subscriptions.specs.Rooms.{are_filters};
 
 use crate::added::grant_to;
@@ -133,6 +136,32 @@ impl<const ROUTES: usize> Subscriptions<ROUTES> {
     {
         drop_task(&mut self.granted, task);
         leave_all(&mut self.asked, task);
+    }
+
+    /// How many routes are granted. They are at most ROUTES.
+    pub fn granted_len(&self) -> usize
+        ensures count { result ≡ length self.now.granted }
+        ensures most { result ≤ ROUTES }
+    {
+        self.granted.len()
+    }
+
+    /// The granted route at place `k`, counted from 0 in the order in which they were granted.
+    pub fn granted(&self, k: usize) -> Option<&Granted>
+        ensures { option_copied result ≡ slice_get self.now.granted k }
+    {
+        self.granted.get(k)
+    }
+
+    /// Adds a granted route behind all others, as a session that is read back has it. It takes no memory.
+    pub fn add_granted(&mut self, route: Granted)
+        requires filter { is_filter route.topics ≡ true }
+        requires none_asked { self.old.asked ≡ [] }
+        requires room { length self.old.granted < ROUTES }
+        requires fresh { has_route (map route_of self.old.granted) (route_of route) ≡ false }
+        ensures { self.new ≡ record self.old { granted = self.old.granted ++ route ∷ [] } }
+    {
+        self.granted.push(route);
     }
 
     /// Whether another task has a route of this filter.
