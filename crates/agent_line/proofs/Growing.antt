@@ -1,6 +1,6 @@
 -- A journal with an entry more, and perhaps a break behind it.
 use Rattle.std.proofs.Common.{◌≡◌, ◌⊎◌, ℕ, Bool, true, false, cond, List, [], ◌∷◌, ◌++◌, refl, sym, ap, ◌∙◌, arith, append_assoc, inl, inr}
-use Rattle.std.specs.Prelude.{Contains, Option, Some, None, nat_le}
+use Rattle.std.specs.Prelude.{Contains, Result, Ok, Err, OnOk, OnErr, Option, Some, None, is_some, nat_le}
 use Rattle.std.proofs.lemmas.List.Folds.{list_any-append}
 use Rattle.mqtt_packet.specs.declared.packet.Packet.{Packet}
 use Rattle.agent_journal.specs.declared.entry.Cause.{Cause}
@@ -12,7 +12,7 @@ use Rattle.agent_journal.specs.Wires.{AreReadings}
 use Rattle.agent_table.specs.Rows.{Row}
 use Rattle.agent_ties.specs.Seen.{entry}
 use Rattle.agent_line.specs.Entered.{IsEntered, IsWhole, IsPart, Arrives, idled}
-use Rattle.agent_line.specs.Recorded.{Recorded, row_in, noted, noted_by, is_take, AreOthers, Grows, Enters}
+use Rattle.agent_line.specs.Recorded.{Recorded, row_in, noted, noted_by, is_take, AreOthers, Makes, MayMake, Grows, Enters}
 use Rattle.agent_line.specs.Told.{Told}
 
 -- this time
@@ -114,3 +114,38 @@ grows_on at old mid new a b =
 pub grows_arrived : (old new : Recorded) (at : ℕ) (packet : Packet) (before now : Told) → Arrives old at packet before new now → Grows at old new
 grows_arrived old new at packet before now (inl none) = grows_none at old new none.1
 grows_arrived old new at packet before now (inr h) = grows_entered at (c.Arrived packet) old new refl (enters_one old new at (c.Arrived packet) before now h)
+
+-- its packets bring nothing
+pub given_arrived : (old new : Recorded) (at : ℕ) (packet : Packet) (before now : Told) → Arrives old at packet before new now → now.given ≡ before.given
+given_arrived old new at packet before now (inl none) = ap (λ (t : Told). t.given) none.2
+given_arrived old new at packet before now (inr h) = h.given
+
+-- ---- What a call may leave that found no memory
+
+pub grows_made : (at : ℕ) (cause : Cause) (old new : Recorded) → is_take cause ≡ false → Makes old at cause new → Grows at old new
+grows_made at cause old new other h =
+    record {
+      setup = ap (λ (r : Recorded). r.setup) h.newest;
+      sizes = ap (λ (r : Recorded). r.sizes) h.newest;
+      more = entry at cause h.found ∷ [];
+      past = ap (λ (r : Recorded). r.past) h.newest;
+      others = one_other at cause h.found other;
+    }
+
+pub grows_maybe : (at : ℕ) (cause : Cause) (old new : Recorded) → is_take cause ≡ false → MayMake old at cause new → Grows at old new
+grows_maybe at cause old new other (inl same) = grows_none at old new same
+grows_maybe at cause old new other (inr made) = grows_made at cause old new other made
+
+-- a break that may have found no memory
+pub grows_broke : {T E : Type 0} (result : Result T E) (old new : Recorded) (at : ℕ) (reason : Why) → OnOk result (new ≡ noted old at (c.Broke reason)) → OnErr result (new ≡ old) → Grows at old new
+grows_broke (Ok a) old new at reason ok err = grows_noted old new at reason ok
+grows_broke (Err e) old new at reason ok err = grows_none at old new err
+
+-- ---- A cause that has a row
+
+pub noted_made : (old new : Recorded) (at : ℕ) (cause : Cause) → is_some (row_in old at cause) ≡ true → new ≡ noted old at cause → Makes old at cause new
+noted_made old new at cause = by (row_in old at cause) refl
+  where
+    by : (r : Option Row) → row_in old at cause ≡ r → is_some r ≡ true → new ≡ noted_by old at cause r → Makes old at cause new
+    by None e some is = absurd (cc some)
+    by (Some found) e some is = record { found = found; is = e; newest = is }

@@ -9,3 +9,4 @@ pub mod Receiving
 pub mod Breaking
 pub mod Turns
 pub mod Timing
+pub mod Going

@@ -1,5 +1,5 @@
 -- The times of entries are readings of the clock.
-use Rattle.std.proofs.Common.{◌≡◌, ℕ, zero, suc, ◌≤◌, List, [], ◌∷◌, ◌++◌, Option, Some, None, refl, sym, ap, ◌∙◌, subst, arith, append_assoc, inl, inr}
+use Rattle.std.proofs.Common.{◌≡◌, ℕ, zero, suc, List, [], ◌∷◌, ◌++◌, Option, Some, None, sym, ap, ◌∙◌, subst, arith, append_assoc, inl, inr}
 use Rattle.std.specs.Prelude.{Contains, max}
 use Rattle.std.proofs.lemmas.Bool.{cases_lt}
 use Rattle.std.proofs.lemmas.List.Elements.{Contains-append_left, Contains-append_right}
@@ -7,7 +7,7 @@ use Rattle.agent_link.specs.Clocks.{AddsReading}
 use Rattle.agent_journal.specs.declared.entry.Entry.{Entry}
 use Rattle.agent_journal.specs.Readings.{last_time_of}
 use Rattle.agent_journal.specs.Wires.{AreReadings}
-use Rattle.agent_line.specs.Times.{FollowsReadings, Timed, KeepsTimes}
+use Rattle.agent_line.specs.Times.{FollowsReadings, KeepsTimes}
 use Rattle.agent_line.proofs.Growing.{both_read}
 
 -- one reading more

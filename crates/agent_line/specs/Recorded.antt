@@ -1,5 +1,5 @@
 -- An agent and its journal, as contracts see them.
-use Rattle.std.specs.Prelude.{◌≡◌, ℕ, List, [], ◌∷◌, ◌++◌, Bool, true, false, Option, Some, None}
+use Rattle.std.specs.Prelude.{◌≡◌, ◌⊎◌, ℕ, List, [], ◌∷◌, ◌++◌, Bool, true, false, Option, Some, None}
 use Rattle.std.specs.List.{list_any}
 use Rattle.agent_journal.specs.declared.entry.Cause.{Cause}
 use Rattle.agent_journal.specs.declared.entry.Cause.TheVariants as c
@@ -37,6 +37,10 @@ pub record Makes (old : Recorded) (at : ℕ) (cause : Cause) (new : Recorded) : 
   pub found : Row
   pub is : row_in old at cause ≡ Some found
   pub newest : new ≡ with_row old at cause found
+
+-- Nothing has changed, or the table's entry of this cause is the newest one: what a call may leave that found no memory.
+abbrev pub MayMake : Recorded → ℕ → Cause → Recorded → Type 0
+MayMake old at cause new = (new ≡ old) ⊎ Makes old at cause new
 
 -- the task and the number of an open command
 abbrev pub command_of : Pending → ℕ × ℕ

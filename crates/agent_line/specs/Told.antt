@@ -1,5 +1,5 @@
 -- What a link tells, and how it follows what it told at first.
-use Rattle.std.specs.Prelude.{◌≡◌, ℕ, List, ◌++◌, Option, Some, None}
+use Rattle.std.specs.Prelude.{◌≡◌, ℕ, ◌<◌, List, ◌++◌, length, Option, Some, None}
 use Rattle.std.specs.Option.{option_map}
 use Rattle.mqtt_packet.specs.Splitting.{Kept as Stream}
 use Rattle.agent_link.specs.Counts.{LinkCounts}
@@ -18,6 +18,10 @@ pub record Told : Type 0 where
 -- bytes more on the present connection
 abbrev pub more_on : Option (List (List ℕ)) → List ℕ → Option (List (List ℕ))
 more_on wires bytes = option_map (λ ws. onto_last ws bytes) wires
+
+-- Bytes came on the present connection.
+abbrev pub GaveMore : Option (List (List ℕ)) → Option (List (List ℕ)) → Type 0
+GaveMore before now = (heard : List ℕ) × (0 < length heard) × (now ≡ more_on before heard)
 
 -- Since then there are these connections, where the link tells its bytes.
 abbrev pub Follows : Option (List (List ℕ)) → List (List ℕ) → Option (List (List ℕ)) → Type 0

@@ -1,6 +1,6 @@
 //! What an agent has beside its journal to speak over a link.
 
-ghost use Rattle.std.specs.Prelude.{◌≡◌, ℕ, ◌≤◌, true, false, is_some, OnOk};
+ghost use Rattle.std.specs.Prelude.{◌≡◌, ℕ, ◌≤◌, true, false, is_some, OnOk, OnErr};
 ghost use Rattle.agent_journal.specs.declared.entry.Cause.TheVariants as causes;
 ghost use Rattle.agent_ties.specs.Seen.{fresh};
 ghost use Rattle.agent_line.specs.Recorded.{noted};
@@ -74,6 +74,7 @@ fn break_off<L: Link, const ACKS: usize, const IN: usize, const ROUTES: usize>(
 ) -> Result<(), NoMemory>
     ensures noted { OnOk result (recorder.new ≡ noted recorder.old now (causes.Broke why)) }
     ensures same { OnOk result (⟦<L as Telling>⟧.told link.new ≡ ⟦<L as Telling>⟧.told link.old) }
+    ensures err { OnErr result (recorder.new ≡ recorder.old) }
 {
     let cause = Cause::Broke { why };
     if !recorder.may(now, &cause) {

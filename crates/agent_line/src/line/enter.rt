@@ -1,9 +1,9 @@
 //! Entries, and their packets.
 
-ghost use Rattle.std.specs.Prelude.{◌≡◌, ℕ, ◌≤◌, true, false, is_some, is_none, None, Ok, OnOk};
+ghost use Rattle.std.specs.Prelude.{◌≡◌, ℕ, ◌≤◌, true, false, is_some, is_none, None, Ok, OnOk, OnErr};
 ghost use Rattle.agent_journal.specs.declared.entry.Cause.TheVariants as causes;
 ghost use Rattle.agent_line.specs.Entered.{IsEntered};
-ghost use Rattle.agent_line.specs.Recorded.{row_in, due_in, Enters};
+ghost use Rattle.agent_line.specs.Recorded.{row_in, due_in, Enters, MayMake};
 ghost use Rattle.agent_line.specs.Told.{KeepsTies};
 
 use super::{Line, settle};
@@ -26,6 +26,7 @@ impl Line {
     ) -> Result<(), NoMemory>
         requires may { is_some (row_in recorder.old now cause) ≡ true }
         ensures entered { OnOk result (IsEntered recorder.old now cause (⟦<L as Telling>⟧.told link.old) recorder.new (⟦<L as Telling>⟧.told link.new)) }
+        ensures err { OnErr result (MayMake recorder.old now cause recorder.new) }
         ensures stream { self.new.splitter ≡ self.old.splitter }
         ensures idle { self.new.idle ≤ self.old.idle }
     {
@@ -55,6 +56,7 @@ impl Line {
         requires may { is_some (row_in recorder.old now (causes.Take task seq request)) ≡ true }
         ensures tied { OnOk result (KeepsTies recorder.old self.old.splitter self.old.idle (⟦<L as Telling>⟧.told link.old) recorder.new self.new.splitter self.new.idle (⟦<L as Telling>⟧.told link.new)) }
         ensures taken { OnOk result (Enters now (causes.Take task seq request) recorder.old recorder.new) }
+        ensures err { OnErr result (MayMake recorder.old now (causes.Take task seq request) recorder.new) }
     {
         let cause = Cause::Take { task, seq, request };
         self.enter(recorder, link, now, cause)?;
@@ -72,6 +74,7 @@ impl Line {
         ensures tied { OnOk result (KeepsTies recorder.old self.old.splitter self.old.idle (⟦<L as Telling>⟧.told link.old) recorder.new self.new.splitter self.new.idle (⟦<L as Telling>⟧.told link.new)) }
         ensures due { result ≡ Ok true → (cause : _) × (due_in recorder.old now ≡ Some cause) × Enters now cause recorder.old recorder.new }
         ensures none { result ≡ Ok false → (due_in recorder.old now ≡ None) × (recorder.new ≡ recorder.old) × (⟦<L as Telling>⟧.told link.new ≡ ⟦<L as Telling>⟧.told link.old) }
+        ensures err { OnErr result ((cause : _) × (due_in recorder.old now ≡ Some cause) × MayMake recorder.old now cause recorder.new) }
     {
         match recorder.due(now) {
             Some(cause) => {

@@ -1,11 +1,11 @@
 //! Openings of connections.
 
-ghost use Rattle.std.specs.Prelude.{◌≡◌, ℕ, ◌≤◌, None, Ok, OnOk, true, false};
+ghost use Rattle.std.specs.Prelude.{◌≡◌, ℕ, ◌≤◌, None, Ok, OnOk, OnErr, true, false};
 ghost use Rattle.agent_journal.specs.declared.entry.Cause.TheVariants as causes;
 ghost use Rattle.agent_journal.specs.declared.entry.Why.TheVariants as reasons;
 ghost use Rattle.agent_journal.specs.declared.setup.Phase.TheVariants.{Down};
 ghost use Rattle.agent_journal.specs.Readings.{last_time_of};
-ghost use Rattle.agent_line.specs.Recorded.{phase_in, due_in, noted, Enters};
+ghost use Rattle.agent_line.specs.Recorded.{phase_in, due_in, Makes, Enters, MayMake};
 ghost use Rattle.agent_line.specs.Told.{KeepsTies};
 
 use super::{Line, break_off, settle};
@@ -31,7 +31,8 @@ impl Line {
         requires none_due { due_in recorder.old now ≡ None }
         ensures tied { OnOk result (KeepsTies recorder.old self.old.splitter self.old.idle (⟦<L as Telling>⟧.told link.old) recorder.new self.new.splitter self.new.idle (⟦<L as Telling>⟧.told link.new)) }
         ensures opened { result ≡ Ok true → Enters now causes.Opened recorder.old recorder.new }
-        ensures failed { result ≡ Ok false → recorder.new ≡ noted recorder.old now (causes.Broke reasons.Fault) }
+        ensures failed { result ≡ Ok false → Makes recorder.old now (causes.Broke reasons.Fault) recorder.new }
+        ensures err { OnErr result (MayMake recorder.old now causes.Opened recorder.new) }
     {
         // Since the agent doesn't give up, this one may be opened.
         recorder.stays(now);

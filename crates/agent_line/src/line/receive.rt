@@ -1,14 +1,16 @@
 //! Receives: what comes is handed in packet by packet.
 
-ghost use Rattle.std.specs.Prelude.{◌≡◌, ◌⊎◌, ℕ, ◌≤◌, true, false, [], is_some, OnOk, Ok, IfOk};
+ghost use Rattle.std.specs.Prelude.{◌≡◌, ◌⊎◌, ℕ, ◌≤◌, true, false, [], is_some, OnOk, OnErr, Ok, IfOk};
+ghost use Rattle.agent_journal.specs.declared.entry.Why.{Why};
+ghost use Rattle.agent_journal.specs.declared.entry.Cause.TheVariants as causes;
 ghost use Rattle.agent_journal.specs.Readings.{last_time_of};
 ghost use Rattle.agent_table.specs.Ties.{listens};
 ghost use Rattle.agent_link.specs.Counts.{raised};
 ghost use Rattle.agent_ties.specs.Ties.{Handing, Ties};
 ghost use Rattle.agent_line.specs.declared.line.receive.Came.TheVariants as Came;
 ghost use Rattle.agent_line.specs.Entered.{Arrives, one_more, idled};
-ghost use Rattle.agent_line.specs.Recorded.{phase_in, Grows};
-ghost use Rattle.agent_line.specs.Told.{Told, KeepsTies, Since};
+ghost use Rattle.agent_line.specs.Recorded.{phase_in, Makes, Grows, MayMake};
+ghost use Rattle.agent_line.specs.Told.{Told, GaveMore, KeepsTies, Since};
 
 use super::{IDLE_LIMIT, Line, break_off, settle};
 use crate::recorder::Recorder;
@@ -39,7 +41,9 @@ impl Line {
         requires listens { listens (phase_in recorder.old) ≡ true }
         requires time { last_time_of recorder.old.past ≤ now }
         ensures tied { OnOk result (KeepsTies recorder.old self.old.splitter self.old.idle (⟦<L as Telling>⟧.told link.old) recorder.new self.new.splitter self.new.idle (⟦<L as Telling>⟧.told link.new)) }
-        ensures grown { OnOk result (Grows now recorder.old recorder.new) }
+        ensures grown { Grows now recorder.old recorder.new }
+        ensures bytes { result ≡ Ok Came.Bytes → GaveMore (L.given link.old) (L.given link.new) }
+        ensures gone { result ≡ Ok Came.Gone → (reason : Why) × Makes recorder.old now (causes.Broke reason) recorder.new }
         ensures nothing { result ≡ Ok Came.Nothing → (L.nothings link.new ≡ raised (L.nothings link.old)) × (recorder.new ≡ idled recorder.old (one_more self.old.idle) now) }
         ensures silent { result ≡ Ok Came.Nothing → self.new.idle ≡ one_more self.old.idle }
         ensures heard { result ≡ Ok Came.Bytes → self.new.idle ≡ 0 }
@@ -78,6 +82,7 @@ impl Line {
         ensures idle { self.new.idle ≡ one_more self.old.idle }
         ensures idled { OnOk result (recorder.new ≡ idled recorder.old (one_more self.old.idle) now) }
         ensures same { OnOk result (⟦<L as Telling>⟧.told link.new ≡ ⟦<L as Telling>⟧.told link.old) }
+        ensures err { OnErr result (recorder.new ≡ recorder.old) }
     {
         self.idle = if self.idle < IDLE_LIMIT {
             self.idle + 1
@@ -100,7 +105,8 @@ impl Line {
         requires time { last_time_of recorder.old.past ≤ now }
         ensures tied { OnOk result ((first : Told) → Since (Handing now self.old.splitter) first recorder.old self.old.splitter self.old.idle (⟦<L as Telling>⟧.told link.old)
             → Since Ties first recorder.new self.new.splitter self.new.idle (⟦<L as Telling>⟧.told link.new)) }
-        ensures grown { OnOk result (Grows now recorder.old recorder.new) }
+        ensures grown { Grows now recorder.old recorder.new }
+        ensures given { OnOk result (L.given link.new ≡ L.given link.old) }
         ensures idle { self.new.idle ≤ self.old.idle }
     {
         let most = self.splitter.held() as u128 + 1;
@@ -132,6 +138,7 @@ impl Line {
         packet: Packet,
     ) -> Result<(), NoMemory>
         ensures arrived { OnOk result (Arrives recorder.old now packet (⟦<L as Telling>⟧.told link.old) recorder.new (⟦<L as Telling>⟧.told link.new)) }
+        ensures err { OnErr result (MayMake recorder.old now (causes.Arrived packet) recorder.new) }
         ensures stream { self.new.splitter ≡ self.old.splitter }
         ensures idle { self.new.idle ≤ self.old.idle }
     {

@@ -1,12 +1,12 @@
-use Rattle.std.proofs.Common.{length, sym, ap, ◌∙◌, subst, arith}
-use Rattle.std.proofs.lemmas.Result.{on_ok_weaker}
+use Rattle.std.proofs.Common.{length, refl, sym, ap, ◌∙◌, subst, arith}
 use Rattle.mqtt_packet.specs.Splitting.{Kept as Stream}
+use Rattle.agent_journal.specs.declared.entry.Cause.TheVariants as causes
 use Rattle.agent_journal.specs.declared.entry.Why.TheVariants as why
 use Rattle.agent_table.specs.Ties.{listens}
 use Rattle.agent_ties.specs.Ties.{Handing}
 use Rattle.agent_line.specs.Told.{Told, Since}
 use Rattle.agent_line.proofs.Breaking.{bad_on, long_on}
-use Rattle.agent_line.proofs.Growing.{grows_on, grows_noted, grows_arrived}
+use Rattle.agent_line.proofs.Growing.{grows_on, grows_broke, grows_maybe, grows_arrived, given_arrived}
 use Rattle.agent_line.proofs.Receiving.{left_on, arrives_on, smaller}
 use Rattle.agent_line.proofs.Turns.{on_both}
 use Rattle.agent_line.proofs.Since.{of_same}
@@ -36,14 +36,18 @@ returns-in-TooLong-clause-tied g c =
 
 pub returns-in-Bad-clause-grown : goal.returns-in-Bad-clause-grown
 returns-in-Bad-clause-grown g c =
-    on_ok_weaker c.break_off.result
-    (λ is. grows_on c.args.now c.args.recorder.now c.loop-turn.recorder c.break_off.new.recorder c.loop-turn.invariant.grown (grows_noted c.loop-turn.recorder c.break_off.new.recorder c.args.now (why.Bad c.in-Bad.at) is)) c.break_off.ensures.noted
+    grows_on c.args.now c.args.recorder.now c.loop-turn.recorder c.break_off.new.recorder c.loop-turn.invariant.grown
+    (grows_broke c.break_off.result c.loop-turn.recorder c.break_off.new.recorder c.args.now (why.Bad c.in-Bad.at) c.break_off.ensures.noted c.break_off.ensures.err)
 
 pub returns-in-TooLong-clause-grown : goal.returns-in-TooLong-clause-grown
 returns-in-TooLong-clause-grown g c =
-    on_ok_weaker c.break_off-in-TooLong.result
-    (λ is. grows_on c.args.now c.args.recorder.now c.loop-turn.recorder c.break_off-in-TooLong.new.recorder c.loop-turn.invariant.grown (grows_noted c.loop-turn.recorder c.break_off-in-TooLong.new.recorder c.args.now (why.TooLong c.in-TooLong.len) is))
-    c.break_off-in-TooLong.ensures.noted
+    grows_on c.args.now c.args.recorder.now c.loop-turn.recorder c.break_off-in-TooLong.new.recorder c.loop-turn.invariant.grown
+    (grows_broke c.break_off-in-TooLong.result c.loop-turn.recorder c.break_off-in-TooLong.new.recorder c.args.now (why.TooLong c.in-TooLong.len) c.break_off-in-TooLong.ensures.noted c.break_off-in-TooLong.ensures.err)
+
+pub returns-in_err-arrive-in-Packet-clause-grown : goal.returns-in_err-arrive-in-Packet-clause-grown
+returns-in_err-arrive-in-Packet-clause-grown g c =
+    grows_on c.args.now c.args.recorder.now c.loop-turn.recorder c.arrive.new.recorder c.loop-turn.invariant.grown
+    (grows_maybe c.args.now (causes.Arrived c.in-Packet.packet) c.loop-turn.recorder c.arrive.new.recorder refl c.in_err-arrive-in-Packet.ensures.err)
 
 pub loop-turn-preserved : goal.loop-turn-preserved
 loop-turn-preserved g c =
@@ -70,4 +74,5 @@ loop-turn-preserved g c =
           (subst (λ (s : Stream). Since (Handing c.args.now s) first c.arrive.new.recorder s c.arrive.new.self.idle now) (sym came.stream) one, omega (arith, fewer, same, room));
       idle = let less = came.idle in let before = c.loop-turn.invariant.idle in omega (arith, less, before);
       grown = grows_on c.args.now c.args.recorder.now c.loop-turn.recorder c.arrive.new.recorder c.loop-turn.invariant.grown (grows_arrived c.loop-turn.recorder c.arrive.new.recorder c.args.now c.in-Packet.packet _ now came.arrived);
+      given = given_arrived c.loop-turn.recorder c.arrive.new.recorder c.args.now c.in-Packet.packet _ now came.arrived ∙ c.loop-turn.invariant.given;
     }

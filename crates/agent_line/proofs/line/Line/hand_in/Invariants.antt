@@ -1,5 +1,5 @@
 -- What came with the packets that were handed in, and that there are turns for those that are left.
-use Rattle.std.proofs.Common.{◌+◌, ◌<◌, ◌≤◌, length}
+use Rattle.std.proofs.Common.{◌≡◌, ◌+◌, ◌<◌, ◌≤◌, length}
 use Rattle.agent_ties.specs.Ties.{Handing}
 use Rattle.agent_line.specs.Recorded.{Grows}
 use Rattle.agent_line.specs.Told.{Told, Since}
@@ -12,4 +12,5 @@ invariant-loop-turn g l = record {
       × (length l.self.splitter.rest + l.turn < l.most);
   idle : l.self.idle ≤ l.fn.self.idle;
   grown : Grows l.now l.fn.recorder l.recorder;
+  given : g.L.Link.given l.link ≡ g.L.Link.given l.fn.link;
 }

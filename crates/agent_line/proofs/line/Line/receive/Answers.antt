@@ -3,10 +3,12 @@ use Rattle.std.specs.Prelude.{Ok, Err}
 use Rattle.agent_link.specs.Counts.{counted}
 use Rattle.agent_link.specs.Wires.{after_recv, ended, silent}
 use Rattle.agent_link.specs.declared.link.Heard.{Heard}
+use Rattle.agent_journal.specs.declared.entry.Cause.TheVariants as causes
 use Rattle.agent_journal.specs.declared.entry.Why.TheVariants as why
 use Rattle.agent_line.specs.Entered.{one_more}
 use Rattle.agent_line.specs.Told.{Told}
-use Rattle.agent_line.proofs.Growing.{grows_noted, grows_idled}
+use Rattle.agent_line.proofs.Going.{end_goes, fault_goes}
+use Rattle.agent_line.proofs.Growing.{grows_noted, grows_idled, noted_made}
 use Rattle.agent_line.proofs.Receiving.{bytes_on}
 use Rattle.agent_line.proofs.Turns.{same_counts, fault_tied, end_tied, nothing_tied}
 use Rattle.agent_line.proofs.Since.{of_same}
@@ -54,6 +56,14 @@ returns-in_ok-break_off-in-Ok-End-clause-grown g c = grows_noted c.args.recorder
 
 pub returns-in_ok-break_off-in-Err-Failed-clause-grown : goal.returns-in_ok-break_off-in-Err-Failed-clause-grown
 returns-in_ok-break_off-in-Err-Failed-clause-grown g c = grows_noted c.args.recorder.now c.break_off-in-Err-Failed.new.recorder c.args.now why.Fault c.in_ok-break_off-in-Err-Failed.ensures.noted
+
+pub returns-in_ok-break_off-in-Ok-End-clause-gone : goal.returns-in_ok-break_off-in-Ok-End-clause-gone
+returns-in_ok-break_off-in-Ok-End-clause-gone g c =
+    λ e. (why.End, noted_made c.args.recorder.now c.break_off.new.recorder c.args.now (causes.Broke why.End) (end_goes c.args.recorder.now c.args.now c.requires.time c.requires.listens) c.in_ok-break_off-in-Ok-End.ensures.noted)
+
+pub returns-in_ok-break_off-in-Err-Failed-clause-gone : goal.returns-in_ok-break_off-in-Err-Failed-clause-gone
+returns-in_ok-break_off-in-Err-Failed-clause-gone g c =
+    λ e. (why.Fault, noted_made c.args.recorder.now c.break_off-in-Err-Failed.new.recorder c.args.now (causes.Broke why.Fault) (fault_goes c.args.recorder.now c.args.now c.requires.time c.requires.listens) c.in_ok-break_off-in-Err-Failed.ensures.noted)
 
 pub returns-in_ok-idle_on-in-Ok-Nothing-clause-nothing : goal.returns-in_ok-idle_on-in-Ok-Nothing-clause-nothing
 returns-in_ok-idle_on-in-Ok-Nothing-clause-nothing g c =
