@@ -1,6 +1,6 @@
 -- What was taken from the queue, and the Takes of a journal.
-use Rattle.std.proofs.Common.{◌≡◌, ℕ, ◌+◌, ◌<◌, ◌≤◌, Bool, true, false, cond, List, [], ◌∷◌, ◌++◌, length, map, Option, Some, None, refl, sym, ap, ◌∙◌, subst, arith, append-nil, append_assoc, is_some, ⊎_elim, eq-eqb, ne_eqb}
-use Rattle.std.specs.Prelude.{◌==◌, ◌||◌, ◌&&◌, Result, Ok, Err, OnOk}
+use Rattle.std.proofs.Common.{◌≡◌, ℕ, ◌+◌, ◌<◌, ◌≤◌, Bool, true, false, cond, List, [], ◌∷◌, ◌++◌, length, map, Some, refl, sym, ap, ◌∙◌, subst, arith, append-nil, append_assoc, is_some, ⊎_elim, eq-eqb, ne_eqb}
+use Rattle.std.specs.Prelude.{◌==◌, ◌||◌, ◌&&◌, Result, Ok, Err, OnErr}
 use Rattle.std.specs.List.{list_any}
 use Rattle.std.proofs.lemmas.List.Folds.{list_any-append}
 use Rattle.std.proofs.lemmas.Bool.{cases_eq}
@@ -16,17 +16,16 @@ use Rattle.agent_journal.specs.Projections.{request_in, requests_of}
 use Rattle.agent_journal.specs.Readings.{last_time_of, takes_by, takes_of, is_leave, leaves_by, has_left}
 use Rattle.agent_table.specs.Histories.{phase_of, readings, row, first_row, due_causes}
 use Rattle.agent_table.specs.Readings.{Readings}
-use Rattle.agent_table.specs.Rows.{Row}
 use Rattle.agent_table.specs.Table.{row_of}
 use Rattle.agent_table.specs.Sizes.{Sizes}
-use Rattle.agent_ties.specs.Seen.{entry}
 use Rattle.mqtt_packet.specs.Splitting.{Kept as Stream}
 use Rattle.agent_ties.proofs.TakeRows.{taken_up_by, taken_off_by}
 use Rattle.task_queues.specs.declared.submission.Submission.{Submission}
 use Rattle.task_queues.specs.Submissions.{task_of, seq_of, request_of, of_task, has_leave, MayFollow}
 use Rattle.task_queues.specs.QueuePasses.{Receiving}
 use Rattle.task_queues.specs.Fronts.{front_of, number_in}
-use Rattle.agent_line.specs.Recorded.{Recorded, row_in, due_in, noted, noted_by, is_take, Enters, Grows}
+use Rattle.agent_line.specs.Recorded.{Recorded, due_in, is_take, Makes, MayMake, Enters, Grows}
+use Rattle.agent_line.proofs.Growing.{grows_made, grows_maybe}
 use Rattle.agent_requests.specs.Takes.{take_of, take_in, takes_in, Becomes, BecomeAll, AreTakes}
 use Rattle.agent_requests.specs.Intake.{Taking, IsServed, takes_now}
 use Rattle.agent_requests.specs.Laws.{TakesAreRequests}
@@ -70,10 +69,6 @@ taken_more old new at taken s h enters seen =
 
 -- ---- An agent behind a call
 
-pub if_ok : {A E : Type 0} {P Q : Type 0} (r : Result A E) → OnOk r P → (P → Q) → OnOk r Q
-if_ok (Ok a) h f = f h
-if_ok (Err e) h f = tt
-
 abbrev at_once : Recorded → Stream → ℕ → Receiving → Taking
 at_once r stream idle receiver = record { recorded = r; stream = stream; idle = idle; receiver = receiver }
 
@@ -96,17 +91,6 @@ serves_entered at cause old new stream idle other enters h =
           (stays_taken old.receiver.taken (enters.first ∷ []) old.recorded.past (enters.first ∷ old.recorded.past) refl (ap (λ c. is_take c || false) enters.is ∙ ap (λ b. b || false) other) h.takes);
       tasks = h.tasks ∙ ap (λ (s : Setup). s.tasks) (sym enters.setup);
     }
-
-pub serves_noted : (at : ℕ) (cause : Cause) (old : Taking) (new : Recorded) (stream : Stream) (idle : ℕ) → is_take cause ≡ false → new ≡ noted old.recorded at cause → IsServed old → IsServed (at_once new stream idle old.receiver)
-serves_noted at cause old new stream idle other e h = subst (λ r. IsServed (at_once r stream idle old.receiver)) (sym e) (by (row_in old.recorded at cause))
-  where
-    by : (found : Option Row) → IsServed (at_once (noted_by old.recorded at cause found) stream idle old.receiver)
-    by None = record { takes = h.takes; tasks = h.tasks }
-    by (Some row) =
-        record {
-          takes = stays_taken old.receiver.taken (entry at cause row ∷ []) old.recorded.past (entry at cause row ∷ old.recorded.past) refl (ap (λ b. b || false) other) h.takes;
-          tasks = h.tasks;
-        }
 
 pub serves_taken : (at : ℕ) (old : Taking) (s : Submission) (new : Recorded) (stream : Stream) (idle : ℕ) (receiver : Receiving) → Enters at (take_of s) old.recorded new
     → receiver ≡ record old.receiver { taken = old.receiver.taken ++ s ∷ [] } → number_in (front_of s) ≤ length old.recorded.past → IsServed old → IsServed (at_once new stream idle receiver)
@@ -132,19 +116,28 @@ pub due_is_other : (r : Recorded) (now : ℕ) (cause : Cause) → due_in r now �
 due_is_other r now cause e = first_other r.setup r.sizes (readings r.setup r.sizes r.past) now cause due_causes refl e
 
 pub served_due : {E : Type 0} (result : Result Bool E) (at : ℕ) (old : Taking) (new : Recorded) (stream : Stream) (idle : ℕ)
-    → (result ≡ Ok true → (cause : Cause) × (due_in old.recorded at ≡ Some cause) × Enters at cause old.recorded new) → (result ≡ Ok false → new ≡ old.recorded)
-    → OnOk result (IsServed old → IsServed (at_once new stream idle old.receiver))
-served_due (Ok true) at old new stream idle due none =
+    → (result ≡ Ok true → (cause : Cause) × (due_in old.recorded at ≡ Some cause) × Enters at cause old.recorded new) → (result ≡ Ok false → new ≡ old.recorded) → OnErr result (Grows at old.recorded new)
+    → IsServed old → IsServed (at_once new stream idle old.receiver)
+served_due (Ok true) at old new stream idle due none err =
     let made = due refl in λ h. serves_entered at made.0 old new stream idle (due_is_other old.recorded at made.0 made.1) made.2 h
-served_due (Ok false) at old new stream idle due none = λ h. serves_same old new stream idle (none refl) h
-served_due (Err e) at old new stream idle due none = tt
+served_due (Ok false) at old new stream idle due none err = λ h. serves_same old new stream idle (none refl) h
+served_due (Err e) at old new stream idle due none err = serves_grown at old new stream idle err
 
 pub served_opened : {E : Type 0} (result : Result Bool E) (at : ℕ) (old : Taking) (new : Recorded) (stream : Stream) (idle : ℕ)
-    → (result ≡ Ok true → Enters at c.Opened old.recorded new) → (result ≡ Ok false → new ≡ noted old.recorded at (c.Broke why.Fault))
-    → OnOk result (IsServed old → IsServed (at_once new stream idle old.receiver))
-served_opened (Ok true) at old new stream idle opened failed = λ h. serves_entered at c.Opened old new stream idle refl (opened refl) h
-served_opened (Ok false) at old new stream idle opened failed = λ h. serves_noted at (c.Broke why.Fault) old new stream idle refl (failed refl) h
-served_opened (Err e) at old new stream idle opened failed = tt
+    → (result ≡ Ok true → Enters at c.Opened old.recorded new) → (result ≡ Ok false → Makes old.recorded at (c.Broke why.Fault) new) → OnErr result (Grows at old.recorded new)
+    → IsServed old → IsServed (at_once new stream idle old.receiver)
+served_opened (Ok true) at old new stream idle opened failed err = λ h. serves_entered at c.Opened old new stream idle refl (opened refl) h
+served_opened (Ok false) at old new stream idle opened failed err = serves_grown at old new stream idle (grows_made at (c.Broke why.Fault) old.recorded new refl (failed refl))
+served_opened (Err e) at old new stream idle opened failed err = serves_grown at old new stream idle err
+
+-- the entry of what is due, which may have been made
+pub maybe_due : {T E : Type 0} (result : Result T E) (at : ℕ) (old new : Recorded) → OnErr result ((cause : Cause) × (due_in old at ≡ Some cause) × MayMake old at cause new) → OnErr result (Grows at old new)
+maybe_due (Ok a) at old new h = tt
+maybe_due (Err e) at old new h = grows_maybe at h.0 old new (due_is_other old at h.0 h.1) h.2
+
+pub maybe_opened : {T E : Type 0} (result : Result T E) (at : ℕ) (old new : Recorded) → OnErr result (MayMake old at c.Opened new) → OnErr result (Grows at old new)
+maybe_opened (Ok a) at old new h = tt
+maybe_opened (Err e) at old new h = grows_maybe at c.Opened old new refl h
 
 -- ---- What is counted of a task
 

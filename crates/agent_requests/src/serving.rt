@@ -1,8 +1,9 @@
-//! What an agent does besides.
+//! The other steps of an agent: what is due, openings and receives.
 
-ghost use Rattle.std.specs.Prelude.{◌≡◌, ℕ, ◌≤◌, true, false, None, Ok, OnOk};
+ghost use Rattle.std.specs.Prelude.{◌≡◌, ℕ, ◌≤◌, true, false, None, Ok, OnOk, OnErr};
 ghost use Rattle.agent_journal.specs.declared.entry.Cause.{Cause};
 ghost use Rattle.agent_journal.specs.declared.entry.Cause.TheVariants as causes;
+ghost use Rattle.agent_journal.specs.declared.entry.Why.{Why};
 ghost use Rattle.agent_journal.specs.declared.entry.Why.TheVariants as reasons;
 ghost use Rattle.agent_journal.specs.declared.setup.Phase.TheVariants.{Down};
 ghost use Rattle.agent_journal.specs.Readings.{last_time_of};
@@ -10,7 +11,8 @@ ghost use Rattle.agent_table.specs.Ties.{listens};
 ghost use Rattle.agent_link.specs.Counts.{raised};
 ghost use Rattle.agent_line.specs.declared.line.receive.Came.TheVariants as Came;
 ghost use Rattle.agent_line.specs.Entered.{one_more, idled};
-ghost use Rattle.agent_line.specs.Recorded.{phase_in, due_in, noted, Grows, Enters};
+ghost use Rattle.agent_line.specs.Recorded.{phase_in, due_in, Makes, Grows, Enters};
+ghost use Rattle.agent_line.specs.Told.{GaveMore};
 ghost use Rattle.agent_requests.specs.Intake.{StaysTied, IsServed};
 
 use crate::intake::Intake;
@@ -29,10 +31,11 @@ impl<J: Named, const QUEUE: usize, const ACKS: usize, const IN: usize, const ROU
     /// Does what is due, and answers whether something was.
     pub fn do_due<L: Link>(&mut self, link: &mut L, now: u64) -> Result<bool, NoMemory>
         ensures tied { OnOk result (StaysTied self.old (⟦<L as Telling>⟧.told link.old) self.new (⟦<L as Telling>⟧.told link.new)) }
-        ensures served { OnOk result (IsServed self.old → IsServed self.new) }
+        ensures served { IsServed self.old → IsServed self.new }
         ensures same { self.new.receiver ≡ self.old.receiver }
         ensures due { result ≡ Ok true → (cause : Cause) × (due_in self.old.recorded now ≡ Some cause) × Enters now cause self.old.recorded self.new.recorded }
         ensures none { result ≡ Ok false → (due_in self.old.recorded now ≡ None) × (self.new.recorded ≡ self.old.recorded) × (⟦<L as Telling>⟧.told link.new ≡ ⟦<L as Telling>⟧.told link.old) }
+        ensures err { OnErr result (Grows now self.old.recorded self.new.recorded) }
     {
         self.line.do_due(&mut self.recorder, link, now)
     }
@@ -43,10 +46,11 @@ impl<J: Named, const QUEUE: usize, const ACKS: usize, const IN: usize, const ROU
         requires time { last_time_of self.old.recorded.past ≤ now }
         requires none_due { due_in self.old.recorded now ≡ None }
         ensures tied { OnOk result (StaysTied self.old (⟦<L as Telling>⟧.told link.old) self.new (⟦<L as Telling>⟧.told link.new)) }
-        ensures served { OnOk result (IsServed self.old → IsServed self.new) }
+        ensures served { IsServed self.old → IsServed self.new }
         ensures same { self.new.receiver ≡ self.old.receiver }
         ensures opened { result ≡ Ok true → Enters now causes.Opened self.old.recorded self.new.recorded }
-        ensures failed { result ≡ Ok false → self.new.recorded ≡ noted self.old.recorded now (causes.Broke reasons.Fault) }
+        ensures failed { result ≡ Ok false → Makes self.old.recorded now (causes.Broke reasons.Fault) self.new.recorded }
+        ensures err { OnErr result (Grows now self.old.recorded self.new.recorded) }
     {
         self.line
             .open(&mut self.recorder, link, now, self.to.as_str())
@@ -57,9 +61,11 @@ impl<J: Named, const QUEUE: usize, const ACKS: usize, const IN: usize, const ROU
         requires listens { listens (phase_in self.old.recorded) ≡ true }
         requires time { last_time_of self.old.recorded.past ≤ now }
         ensures tied { OnOk result (StaysTied self.old (⟦<L as Telling>⟧.told link.old) self.new (⟦<L as Telling>⟧.told link.new)) }
-        ensures served { OnOk result (IsServed self.old → IsServed self.new) }
+        ensures served { IsServed self.old → IsServed self.new }
         ensures same { self.new.receiver ≡ self.old.receiver }
-        ensures grown { OnOk result (Grows now self.old.recorded self.new.recorded) }
+        ensures grown { Grows now self.old.recorded self.new.recorded }
+        ensures bytes { result ≡ Ok Came.Bytes → GaveMore (L.given link.old) (L.given link.new) }
+        ensures gone { result ≡ Ok Came.Gone → (reason : Why) × Makes self.old.recorded now (causes.Broke reason) self.new.recorded }
         ensures nothing { result ≡ Ok Came.Nothing → (L.nothings link.new ≡ raised (L.nothings link.old)) × (self.new.recorded ≡ idled self.old.recorded (one_more self.old.idle) now) }
     {
         self.line.receive(&mut self.recorder, link, now)

@@ -27,4 +27,4 @@ returns-clause-served g c =
       | in-Some-front w ↦ let met = w.meet.ensures.within in let is = ap number_in w.in-Some-front.is in omega (arith, most, met, is)
       | in_default-front w ↦ search rules
     ] in
-    serves_taken c.args.now (record { recorded = c.self.inside.recorder; stream = c.self.inside.line.splitter; idle = c.self.inside.line.idle; receiver = c.self.inside.receiver }) c.in-Some.submission c.take.new.recorder c.take.new.self.splitter c.take.new.self.idle c.recv.new.pass c.in_ok-take.ensures.taken c.in-Some.ensures.taken seen served
+    serves_taken c.args.now (record { recorded = c.self.inside.recorder; stream = c.self.inside.line.splitter; idle = c.self.inside.line.idle; receiver = c.self.inside.receiver }) c.in-Some.submission c.take.new.recorder c.take.new.self.splitter c.take.new.self.idle c.recv.new.pass c.in-Ok.ensures.taken c.in-Some.ensures.taken seen served
