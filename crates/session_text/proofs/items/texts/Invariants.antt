@@ -1,0 +1,8 @@
+use Rattle.std.proofs.Common.{◌≡◌, ◌-◌}
+use Rattle.mqtt_packet.specs.Reading.{string_at}
+use Rattle.session_text.specs.Reading.{items_at}
+use Rattle.session_text.proofs.Counted.{with_front}
+use Rattle.session_text.proofs.items.texts.Given as goal
+
+abbrev pub invariant-loop : goal.invariant-loop
+invariant-loop l = with_front l.items (items_at string_at (l.count - l.counter) l.rest) ≡ items_at string_at l.count l.bytes
