@@ -14,6 +14,3 @@ pub use place::Place;
 pub use post::Post;
 pub use posts::{Posted, Posts};
 pub use shown::Shown;
-
-#[cfg(test)]
-mod tests;

@@ -7,6 +7,3 @@ mod pending;
 
 pub use acks::PendingAcks;
 pub use pending::Pending;
-
-#[cfg(test)]
-mod tests;

@@ -7,6 +7,3 @@ mod stages;
 
 pub use answers::{AckAnswer, AckKind, Received, Stage};
 pub use stages::QosState;
-
-#[cfg(test)]
-mod tests;

@@ -5,6 +5,3 @@ mod again;
 mod session;
 
 pub use session::resume;
-
-#[cfg(test)]
-mod tests;

@@ -18,6 +18,3 @@ pub use mqtt_packet::NoMemory;
 pub use seeded::run;
 pub use totals::Totals;
 pub use world::World;
-
-#[cfg(test)]
-mod tests;

@@ -27,6 +27,3 @@ pub use log::{Counts, Fronts, TaskLog};
 pub use outcome_log::OutcomeLog;
 pub use task::{Parts, TaskEnd};
 pub use ticket::Ticket;
-
-#[cfg(test)]
-mod tests;

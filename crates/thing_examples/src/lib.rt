@@ -1,5 +1,6 @@
-//! Topics, documents and blocks of a device, worked out by hand. They are tests of `thing_topics`, `device_docs` and `stream_blocks`
-//! through their public calls, and stand apart so that these aren't proved with them once more.
+//! Topics, documents and blocks of a device, and a service of its jobs, worked out by hand. They are tests of `thing_topics`,
+//! `device_docs`, `stream_blocks` and `thing_service` through their public calls, and stand apart so that these aren't proved with them
+//! once more.
 #![tactic(auto)]
 
 #[cfg(test)]

@@ -2,4 +2,5 @@
 
 mod blocks;
 mod documents;
+mod services;
 mod topics;

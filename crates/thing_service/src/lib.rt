@@ -21,6 +21,3 @@ pub use service::Service;
 
 /// Want of memory.
 pub type NoMemory = std::alloc::AllocError;
-
-#[cfg(test)]
-mod tests;

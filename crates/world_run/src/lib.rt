@@ -4,3 +4,6 @@
 mod call;
 
 pub use call::world_call;
+
+#[cfg(test)]
+mod tests;

@@ -1,13 +1,13 @@
 //! What no clause says: a service asked in order, images with digests of FIPS 180-4, requests for blocks, and each bad line
 //! of a text. Memory is ample here, and no call answers that it isn't.
 
-use crate::{Service, ServiceFault, read_service};
 use arrayvec::ArrayVec;
 use device_docs::{Job, JobStatus, read_execution, write_update};
 use sha2::{Digest, Sha256};
 use std::alloc::Global;
 use std::test::Fail;
 use stream_blocks::{AskBlocks, read_block, write_request};
+use thing_service::{Service, ServiceFault, read_service};
 
 /// Two jobs: of 300 bytes and of 1,048,576, both of seed 1.
 const TWO_JOBS: &[u8] =

@@ -1,11 +1,11 @@
 //! What no clause says: that a call succeeds, and the order in numbers.
 
-use super::*;
 use agent_journal::{Effect, Effects, Request};
 use list_types::{Blob, Seq, Text};
 use mqtt_packet::{Packet, Qos};
 use pending_acks::{Pending, PendingAcks};
 use qos_state::{AckKind, QosState};
+use session_resume::resume;
 use std::alloc::{AllocError, Global};
 use std::test::Fail;
 

@@ -3,8 +3,8 @@
 ghost use Rattle.std.specs.Prelude.{◌≡◌, ◌≤◌, [], ◌∷◌, IfOk, length};
 ghost use Rattle.agent_posts.specs.Mail.{AreFew};
 
-use super::*;
 use agent_journal::{Cause, Effect, Entry, Message, Outcome};
+use agent_posts::{Post, Posted, Posts, Shown};
 use front_board::{FrontBoard, Named, Owner};
 use list_types::{Seq, Text};
 use mqtt_packet::Qos;

@@ -2,9 +2,9 @@
 
 ghost use Rattle.std.specs.Prelude.{◌<◌, ◌≤◌};
 
-use super::*;
 use agent_journal::Request;
 use list_types::Seq;
+use pending_acks::{Pending, PendingAcks};
 use std::alloc::{AllocError, Global};
 use std::process::Abort;
 use std::test::Fail;

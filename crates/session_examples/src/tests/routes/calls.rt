@@ -4,10 +4,10 @@
 ghost use Rattle.std.specs.Prelude.{◌≡◌};
 ghost use Rattle.subscriptions.specs.Rooms.{are_filters};
 
-use crate::{Renewal, Subscriptions};
 use list_types::Text;
 use mqtt_packet::{Ask, Asks, Codes, Filters, Qos};
 use std::alloc::{AllocError, Global};
+use subscriptions::{Renewal, Subscriptions};
 use topic_filter::{is_filter, is_name};
 
 /// The number of the first line that is answered otherwise, counted from 0.

@@ -1,7 +1,7 @@
 //! Worlds of seeds. The counts of seed 1 are worked rows; those of the other seeds were computed by a program of its own, which
 //! shares no code with this one.
 
-use super::*;
+use session_world::{Event, Played, Totals, World, run};
 use std::test::Fail;
 
 #[test]

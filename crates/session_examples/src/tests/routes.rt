@@ -3,9 +3,9 @@
 
 mod calls;
 
-use super::*;
 use calls::{differs, fill};
 use std::alloc::Global;
+use subscriptions::Subscriptions;
 
 /// The first call that is answered otherwise, where nothing is routed before.
 fn differs_at_2(alloc: Global, history: &str) -> Option<usize> {

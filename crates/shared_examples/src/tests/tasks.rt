@@ -4,7 +4,6 @@ ghost use Rattle.std.specs.Prelude.{◌≡◌, ◌<◌, ◌≤◌, [], ◌∷◌
 ghost use Rattle.std.specs.Arc.{arc_value};
 ghost use Rattle.task_end.specs.Sides.{IsOut};
 
-use super::*;
 use agent_journal::{Message, Outcome, Request};
 use command_pool::CommandPool;
 use front_board::{FrontBoard, FrontPass, Named};
@@ -14,6 +13,7 @@ use std::alloc::{AllocError, Global};
 use std::marker::Brand;
 use std::sync::{Arc, Wait};
 use std::test::Fail;
+use task_end::{Collected, Counts, NextMessage, Parts, TaskEnd, Ticket};
 use task_queues::{CommandQueue, Mailbox, Note, PutPass, RecvPass};
 
 /// What the agent has of one task.
