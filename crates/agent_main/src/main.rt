@@ -17,6 +17,8 @@ use crate::top::top;
 use std::alloc::{AllocError, Global};
 use std::process::ExitCode;
 use std::rt::Env;
+use std::sync::Wait;
+use std::thread::Threads;
 use std::{env, io};
 
 /// The status of want of memory.
@@ -35,11 +37,14 @@ fn main(rt: HostRuntime) -> ExitCode {
 }
 
 /// Runs the command, and tells a person what it came to where that isn't what was asked. Nothing depends on what is told.
-fn run(rt: &HostRuntime, words: &[&str]) -> u8 {
+fn run<R: Threads + Wait + Sync + AllocGlobal + Input + Print + Eprint>(
+    rt: &R,
+    words: &[&str],
+) -> u8 {
     let alloc = rt.alloc();
     let mut source = StdSource::new(alloc, rt.reader());
     let mut sink = StdSink::new(alloc, io::writer(rt));
-    let status = top(alloc, words, &mut source, &mut sink);
+    let status = top(rt, alloc, words, &mut source, &mut sink);
     if let Ok(text) = told(alloc, status, words, source.heard(), sink.line()) {
         let _ = eprint!(rt; "{}", text.as_str());
     }

@@ -19,6 +19,15 @@ const PRINTED: &[u8] =
 const LEFT: &[u8] =
     b"@0 opened\n  send 100f00044d5154540400003c0003646576\n@0 arrived 20020000\n@0 take 0 0 leave\n@0 finish\n  send e000\ntask 0 sent 0 got 0 messages 0\nok\n";
 
+/// {"version":1,"state":{"desired":{"a":1}}}
+/// {"version":2,"state":{"desired":{"a":null,"b":"x"}}}
+const CHANGED: &[u8] =
+    b"change 7b2276657273696f6e223a312c227374617465223a7b2264657369726564223a7b2261223a317d7d7d\n\
+     publish\n\
+     change 7b2276657273696f6e223a322c227374617465223a7b2264657369726564223a7b2261223a6e756c6c2c\
+     2262223a2278227d7d7d\n\
+     publish\n";
+
 #[test]
 fn each_command_has_its_text_and_status(rt: HostRuntime) -> Result<(), Fail> {
     let alloc = rt.alloc();
@@ -75,10 +84,28 @@ fn each_command_has_its_text_and_status(rt: HostRuntime) -> Result<(), Fail> {
             b"seed 1 events 4\ntaken 0 done 0 passed 0 local 0 told 0 breaks 0\nok\n".as_slice(),
             0,
         ),
+        (
+            ["mirror", "--readers", "2", "--reads", "3"].as_slice(),
+            CHANGED,
+            b"reader 0 reads 3 last 2\nreader 1 reads 3 last 2\nkey b x\nok\n".as_slice(),
+            0,
+        ),
+        (
+            ["mirror", "--readers", "9", "--reads", "3"].as_slice(),
+            CHANGED,
+            b"fault words\n".as_slice(),
+            1,
+        ),
+        (
+            ["mirror", "--readers", "1", "--reads", "0"].as_slice(),
+            b"publish\ntasks 1\n".as_slice(),
+            b"fault script 2\n".as_slice(),
+            2,
+        ),
     ] {
         let mut source = MemSource::new(text.to_vec(alloc)?, Vec::new(alloc));
         let mut sink = MemSink::new(alloc, Vec::new(alloc));
-        assert_eq!(rt; top(alloc, words, &mut source, &mut sink), status);
+        assert_eq!(rt; top(&rt, alloc, words, &mut source, &mut sink), status);
         assert_eq!(rt; sink.bytes(), want);
     }
     Ok(())
@@ -90,7 +117,10 @@ fn a_source_may_not_be_too_long(rt: HostRuntime) -> Result<(), Fail> {
     let words = ["replay", "--client", "dev"];
     let mut source = MemSource::new(vec![in alloc; b'#'; 1_048_577]?, Vec::new(alloc));
     let mut sink = MemSink::new(alloc, Vec::new(alloc));
-    assert_eq!(rt; top(alloc, words.as_slice(), &mut source, &mut sink), 2);
+    assert_eq!(rt;
+        top(&rt, alloc, words.as_slice(), &mut source, &mut sink),
+        2
+    );
     assert_eq!(rt; sink.bytes(), b"fault script long\n".as_slice());
     Ok(())
 }
@@ -101,11 +131,17 @@ fn a_fault_of_source_or_sink_is_told(rt: HostRuntime) -> Result<(), Fail> {
     let words = ["replay", "--client", "dev"];
     let mut source = MemSource::new(PUBLISHED.to_vec(alloc)?, vec![in alloc; 1]?);
     let mut sink = MemSink::new(alloc, Vec::new(alloc));
-    assert_eq!(rt; top(alloc, words.as_slice(), &mut source, &mut sink), 9);
+    assert_eq!(rt;
+        top(&rt, alloc, words.as_slice(), &mut source, &mut sink),
+        9
+    );
     assert_eq!(rt; sink.bytes(), b"fault source\n".as_slice());
     let mut source = MemSource::new(PUBLISHED.to_vec(alloc)?, Vec::new(alloc));
     let mut sink = MemSink::new(alloc, vec![in alloc; 0]?);
-    assert_eq!(rt; top(alloc, words.as_slice(), &mut source, &mut sink), 8);
+    assert_eq!(rt;
+        top(&rt, alloc, words.as_slice(), &mut source, &mut sink),
+        8
+    );
     assert_eq!(rt; sink.bytes(), b"".as_slice());
     Ok(())
 }
@@ -118,7 +154,7 @@ fn readers_and_writers_of_std_do(rt: HostRuntime) -> Result<(), Fail> {
     let mut written = Vec::new(alloc);
     let (status, last) = {
         let mut sink = StdSink::new(alloc, &mut written);
-        let status = top(alloc, words.as_slice(), &mut source, &mut sink);
+        let status = top(&rt, alloc, words.as_slice(), &mut source, &mut sink);
         (status, sink.line() == b"ok\n".as_slice())
     };
     assert_eq!(rt; status, 0);
@@ -136,7 +172,7 @@ fn a_writer_that_is_full_has_taken_a_front(rt: HostRuntime) -> Result<(), Fail> 
     let mut room = [0; 9];
     let status = {
         let mut sink = StdSink::new(alloc, room.as_mut_slice());
-        top(alloc, words.as_slice(), &mut source, &mut sink)
+        top(&rt, alloc, words.as_slice(), &mut source, &mut sink)
     };
     assert_eq!(rt; status, 8);
     assert_eq!(rt; room.as_slice(), b"@0 opened".as_slice());

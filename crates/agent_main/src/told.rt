@@ -5,6 +5,10 @@ use command_words::explain;
 use plain_text::number_in;
 use std::alloc::{AllocError, Global};
 
+/// What a line of a mirror's source may be.
+const MIRROR_LINE: &str =
+    "`publish`, or `change HEX`, the bytes of a text as {\"version\":1,\"state\":{\"desired\":{\"a\":1}}}";
+
 /// What is told of a command with this status, its words, what it read and the line that it wrote last.
 pub fn told<'a>(
     alloc: Global,
@@ -15,7 +19,7 @@ pub fn told<'a>(
 ) -> Result<String, AllocError> {
     match status {
         1 => explain(alloc, words),
-        2 => told_of_source(alloc, heard, line),
+        2 => told_of_source(alloc, words, heard, line),
         4 => told_of_refusal(alloc, line),
         _ => format!(in alloc; "{}", sentence(status)),
     }
@@ -65,16 +69,30 @@ fn meaning(code: u64) -> &'static str {
     }
 }
 
-fn told_of_source(alloc: Global, heard: &[u8], line: &[u8]) -> Result<String, AllocError> {
+fn told_of_source(
+    alloc: Global,
+    words: &[&str],
+    heard: &[u8],
+    line: &[u8],
+) -> Result<String, AllocError> {
     match number_behind(b"fault script ", line) {
-        Some(number) => told_of_line(alloc, heard, number),
+        Some(number) => told_of_line(alloc, words, heard, number),
         None => format!(in alloc; "standard input has more than 1048576 bytes\n"),
     }
 }
 
-fn told_of_line(alloc: Global, heard: &[u8], number: u64) -> Result<String, AllocError> {
+fn told_of_line(
+    alloc: Global,
+    words: &[&str],
+    heard: &[u8],
+    number: u64,
+) -> Result<String, AllocError> {
     let place = place_of(heard, number);
-    let wants = place.wants();
+    let wants = if is_mirror(words) {
+        MIRROR_LINE
+    } else {
+        place.wants()
+    };
     match place.line {
         Some(line) => {
             let shown = shown(alloc, line)?;
@@ -86,6 +104,13 @@ fn told_of_line(alloc: Global, heard: &[u8], number: u64) -> Result<String, Allo
         None => {
             format!(in alloc; "standard input ends in front of line {number}\nexpected: {wants}\n")
         }
+    }
+}
+
+fn is_mirror(words: &[&str]) -> bool {
+    match words {
+        [] => false,
+        [name, ..] => *name == "mirror",
     }
 }
 

@@ -1,8 +1,8 @@
 -- How a command ends over what came of its source.
-use Rattle.std.proofs.Common.{◌≡◌, ℕ, ◌<◌, ◌≤◌, List, [], ◌++◌, length, Option, Some, None, IfSome, refl, sym, ap, ◌∙◌, subst, arith, inl, inr, length-append, append-nil}
+use Rattle.std.proofs.Common.{◌≡◌, ℕ, ◌<◌, ◌≤◌, List, [], ◌++◌, length, Option, Some, None, IfSome, refl, sym, ap, ◌∙◌, subst, arith, inl, inr, cond, length-append, append-nil}
 use Rattle.std.specs.Io.KnownBytes.{Consumes, IsAtEnd}
 use Rattle.std.proofs.KnownBytes.{Consumes-whole}
-use Rattle.std.proofs.lemmas.Bool.{lt-ltb}
+use Rattle.std.proofs.lemmas.Bool.{le-ltb, lt-ltb}
 use Rattle.agent_link.specs.Counts.{raised}
 use Rattle.agent_link.proofs.Writing.{front_none}
 use Rattle.command_answers.specs.Answers.{Answer, Ends, SinkNow, sink_now}
@@ -15,6 +15,16 @@ whole a b bytes taken end short = Consumes-whole a b bytes (λ all. all ≡ byte
 is_long : (to : List ℕ → Answer) (text : List ℕ) → source_limit < length text → within_limit to text ≡ too_long
 unfolding within_limit
 is_long to text h = rw (lt-ltb source_limit (length text) h) refl
+
+is_within : (to : List ℕ → Answer) (text : List ℕ) → length text ≤ source_limit → within_limit to text ≡ to text
+unfolding within_limit
+is_within to text short = ap (λ b. cond b too_long (to text)) (le-ltb source_limit (length text) short)
+
+-- a source that was read to its end is judged by its text
+pub by_text : (to : List ℕ → Answer) (text : List ℕ) (status : ℕ) (a b : Option (List ℕ)) (faults faults_then : ℕ) (before now : SinkNow) → IfSome a (λ all. all ≡ text) → length text ≤ source_limit → faults_then ≡ faults
+    → Ends status before now (to text) → EndsBySource status (source_now a faults) (source_now b faults_then) before now (within_limit to)
+by_text to text status a b faults faults_then before now all short same h =
+    inl (record { text = text; is_all = all; faults = same; ends = subst (Ends status before now) (sym (is_within to text short)) h })
 
 -- more than may be was read
 pub long : (to : List ℕ → Answer) (status : ℕ) (a b : Option (List ℕ)) (bytes : List ℕ) (faults faults_then : ℕ) (before now : SinkNow) → Consumes a b bytes → 1048576 < length bytes → faults_then ≡ faults

@@ -1,7 +1,7 @@
 //! Words that the table has, and words that it hasn't, each written from the table.
 
 use command_words::{
-    BrokerWords, FetchWords, RunWords, Size, Words, WordsFault, WorldWords, explain,
+    BrokerWords, FetchWords, MirrorWords, RunWords, Size, Words, WordsFault, WorldWords, explain,
     options_are_spelled, read_words,
 };
 use list_types::Text;
@@ -157,6 +157,21 @@ fn a_broker_and_a_world_have_their_options(rt: HostRuntime) -> Result<(), Fail> 
 }
 
 #[test]
+fn a_mirror_has_its_options(rt: HostRuntime) {
+    let alloc = rt.alloc();
+    let least = Words::Mirror(MirrorWords {
+        readers: 1,
+        reads: 0,
+    });
+    assert!(rt; is_read(alloc, "mirror --readers 1 --reads 0", &least));
+    let most = Words::Mirror(MirrorWords {
+        readers: 8,
+        reads: 1_000_000,
+    });
+    assert!(rt; is_read(alloc, "mirror --reads=1000000 --readers 8", &most));
+}
+
+#[test]
 fn other_words_are_no_replay(rt: HostRuntime) {
     let alloc = rt.alloc();
     for line in [
@@ -233,6 +248,14 @@ fn other_words_are_no_command(rt: HostRuntime) {
         "world --seed 100000000000000000000000000000 --events 1",
         "world --seed 1 --events 0",
         "world --seed 1 --events 1000001",
+        "mirror --readers 1",
+        "mirror --reads 1",
+        "mirror --readers 0 --reads 1",
+        "mirror --readers 9 --reads 1",
+        "mirror --readers 1 --reads 1000001",
+        "mirror --readers 1 --reads -1",
+        "mirror --readers 1 --reads 1 --readers 2",
+        "mirror --readers 1 --reads 1 --seed 1",
     ] {
         assert!(rt; is_refused(alloc, line), "at {line:?}");
     }
@@ -350,6 +373,13 @@ fn a_value_out_of_range_gives_the_ranges(rt: HostRuntime) -> Result<(), Fail> {
     assert!(rt;
         says(
             alloc,
+            "mirror --readers 9 --reads 1",
+            &["--readers <COUNT>", "1 to 8", "0 to 1000000"]
+        )?
+    );
+    assert!(rt;
+        says(
+            alloc,
             "fetch --help",
             &["--block <BYTES>", "256 to 65536", "4096"]
         )?
@@ -361,7 +391,7 @@ fn a_value_out_of_range_gives_the_ranges(rt: HostRuntime) -> Result<(), Fail> {
 fn without_words_the_commands_are_listed(rt: HostRuntime) -> Result<(), Fail> {
     let alloc = rt.alloc();
     let said = explain(alloc, [].as_slice())?;
-    for name in ["replay", "share", "fetch", "broker", "world"] {
+    for name in ["replay", "share", "fetch", "broker", "world", "mirror"] {
         assert!(rt; said.contains(name), "at {name}");
     }
     Ok(())

@@ -1,4 +1,4 @@
--- The five commands and the tables of their options.
+-- The six commands and the tables of their options.
 use Rattle.std.specs.Prelude.{ℕ, List, [], ◌∷◌, Option, Some, None, if◌then◌else◌, codes}
 use Rattle.std.specs.Int.{is_power_of_two}
 use Rattle.std.specs.Option.{option_map}
@@ -8,11 +8,12 @@ use Rattle.plain_text.specs.Reading.{◌>>=◌}
 use Rattle.agent_journal.specs.Setups.{is_client}
 use Rattle.thing_topics.specs.Classes.{is_thing}
 use Rattle.command_words.specs.declared.words.Words.{Words}
-use Rattle.command_words.specs.declared.words.Words.TheVariants.{Replay, Share, Fetch, Broker, World}
+use Rattle.command_words.specs.declared.words.Words.TheVariants.{Replay, Share, Fetch, Broker, World, Mirror}
 use Rattle.command_words.specs.declared.words.RunWords.{RunWords}
 use Rattle.command_words.specs.declared.words.FetchWords.{FetchWords}
 use Rattle.command_words.specs.declared.words.BrokerWords.{BrokerWords}
 use Rattle.command_words.specs.declared.words.WorldWords.{WorldWords}
+use Rattle.command_words.specs.declared.words.MirrorWords.{MirrorWords}
 use Rattle.command_words.specs.declared.words.Size.{Size}
 use Rattle.command_words.specs.declared.words.Size.TheVariants.{Tiny, Usual}
 use Rattle.command_words.specs.declared.rows.Kind.TheVariants.{Required, Optional, Flag}
@@ -127,6 +128,15 @@ world_of options = do
   events ← number 1 1000000 names.events options
   Some (record { seed = seed; events = events })
 
+abbrev pub mirror_table : Table
+mirror_table = (names.readers, Required) ∷ (names.reads, Required) ∷ []
+
+unfoldable pub mirror_of : List Given → Option MirrorWords
+mirror_of options = do
+  readers ← number 1 8 names.readers options
+  reads ← number 0 1000000 names.reads options
+  Some (record { readers = readers; reads = reads })
+
 -- ---- The command line
 
 -- A table's options are picked from the words, and make the command.
@@ -140,6 +150,7 @@ command_of command words =
     else if bytes_eq command (codes "fetch") then read_by fetch_table fetch_of Fetch words
     else if bytes_eq command (codes "broker") then read_by broker_table broker_of Broker words
     else if bytes_eq command (codes "world") then read_by world_table world_of World words
+    else if bytes_eq command (codes "mirror") then read_by mirror_table mirror_of Mirror words
     else None
 
 -- The first word is the command, and its options follow.

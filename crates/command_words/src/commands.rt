@@ -1,10 +1,11 @@
-//! The five commands, each read from the options that its table takes.
+//! The six commands, each read from the options that its table takes.
 
 ghost use Rattle.std.specs.Prelude.{◌≡◌, ◌≤◌, [], true, IfOk, IfSome};
 ghost use Rattle.command_words.specs.Commands as commands;
 ghost use Rattle.command_words.specs.Given.{all_given, texts};
 ghost use Rattle.command_words.specs.Names as names;
-ghost use Rattle.command_words.specs.Ranges.{AreInRange, AreRunWords, AreFetchWords, AreBrokerWords, AreWorldWords, IsBlock};
+ghost use Rattle.command_words.specs.Ranges.{AreInRange, AreRunWords, AreFetchWords, AreBrokerWords};
+ghost use Rattle.command_words.specs.Ranges.{AreWorldWords, AreMirrorWords, IsBlock};
 ghost use Rattle.command_words.specs.Reading.{Gives};
 ghost use Rattle.command_words.specs.Tables.{options_of};
 ghost use Rattle.command_words.specs.Values.{is_address, number_or};
@@ -14,12 +15,12 @@ use crate::faults::WordsFault;
 use crate::given::{Given, is_given, value_of};
 use crate::matches::options_of;
 use crate::rows::{
-    BLOCK, CLIENT, CONNECT, CONNECTIONS, DUMP, EVENTS, KEEP_ALIVE, LISTEN, REOPEN, SEED, SIZE,
-    THING, TICK, TRIES, WIPE,
+    BLOCK, CLIENT, CONNECT, CONNECTIONS, DUMP, EVENTS, KEEP_ALIVE, LISTEN, READERS, READS, REOPEN,
+    SEED, SIZE, THING, TICK, TRIES, WIPE,
 };
-use crate::tables::{BROKER, FETCH, REPLAY, SHARE, WORLD};
+use crate::tables::{BROKER, FETCH, MIRROR, REPLAY, SHARE, WORLD};
 use crate::values::{number, number_or, text, text_or_none};
-use crate::words::{BrokerWords, FetchWords, RunWords, Size, Words, WorldWords};
+use crate::words::{BrokerWords, FetchWords, MirrorWords, RunWords, Size, Words, WorldWords};
 use list_types::Text;
 use plain_text::number_in;
 use std::alloc::Global;
@@ -55,6 +56,9 @@ fn read_command<'a>(alloc: Global, command: &str, words: &'a [&'a str]) -> Resul
     } else if command == "world" {
         let given = world_options(alloc, words)?;
         Ok(Words::World(world(given.as_slice())?))
+    } else if command == "mirror" {
+        let given = mirror_options(alloc, words)?;
+        Ok(Words::Mirror(mirror(given.as_slice())?))
     } else {
         Err(WordsFault::Words)
     }
@@ -152,6 +156,16 @@ fn world(options: &[Given<'_>]) -> Result<WorldWords, WordsFault>
     Ok(WorldWords { seed, events })
 }
 
+#[tactic(auto, unfolding(crate::specs::Commands::mirror_of))]
+fn mirror(options: &[Given<'_>]) -> Result<MirrorWords, WordsFault>
+    ensures words { Gives (λ words. words) result (commands.mirror_of (all_given options.now)) }
+    ensures ranges { IfOk result AreMirrorWords }
+{
+    let readers = number(1, 8, READERS.name, options)? as u32;
+    let reads = number(0, 1_000_000, READS.name, options)? as u32;
+    Ok(MirrorWords { readers, reads })
+}
+
 // What clap reads of each command's words, by its table.
 
 fn replay_options<'a>(alloc: Global, words: &'a [&'a str]) -> Result<Vec<Given<'a>>, WordsFault>
@@ -182,6 +196,12 @@ fn world_options<'a>(alloc: Global, words: &'a [&'a str]) -> Result<Vec<Given<'a
     ensures { Gives (λ given. all_given given.items) result (options_of commands.world_table (texts words.now)) }
 {
     options_of(alloc, "domeweave world", &WORLD, words)
+}
+
+fn mirror_options<'a>(alloc: Global, words: &'a [&'a str]) -> Result<Vec<Given<'a>>, WordsFault>
+    ensures { Gives (λ given. all_given given.items) result (options_of commands.mirror_table (texts words.now)) }
+{
+    options_of(alloc, "domeweave mirror", &MIRROR, words)
 }
 
 /// The keep alive in seconds, 60 where it isn't given.

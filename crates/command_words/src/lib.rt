@@ -1,4 +1,4 @@
-//! The command line: five commands, each with a table of its options.
+//! The command line: six commands, each with a table of its options.
 #![tactic(auto)]
 
 mod apps;
@@ -18,4 +18,4 @@ pub use commands::read_words;
 pub use faults::WordsFault;
 pub use laws::options_are_spelled;
 pub use messages::explain;
-pub use words::{BrokerWords, FetchWords, RunWords, Size, Words, WorldWords};
+pub use words::{BrokerWords, FetchWords, MirrorWords, RunWords, Size, Words, WorldWords};

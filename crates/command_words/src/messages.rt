@@ -2,7 +2,7 @@
 
 use crate::apps::command;
 use crate::rows::Row;
-use crate::tables::{BROKER, FETCH, REPLAY, SHARE, WORLD};
+use crate::tables::{BROKER, FETCH, MIRROR, REPLAY, SHARE, WORLD};
 use clap::Command;
 use std::alloc::{AllocError, Global};
 
@@ -22,6 +22,8 @@ pub fn explain<'a>(alloc: Global, words: &'a [&'a str]) -> Result<String, AllocE
                 explain_options(alloc, "domeweave broker", &BROKER, rest)
             } else if *name == "world" {
                 explain_options(alloc, "domeweave world", &WORLD, rest)
+            } else if *name == "mirror" {
+                explain_options(alloc, "domeweave mirror", &MIRROR, rest)
             } else {
                 explain_command(alloc, name, words)
             }
@@ -107,6 +109,11 @@ fn program<'a>(alloc: Global) -> Result<Command<'a>, AllocError> {
             alloc,
             "world",
             "Play an agent and a broker over channels that lose packets",
+        ))?
+        .subcommand(named(
+            alloc,
+            "mirror",
+            "Read a shadow's document on threads while its changes are published",
         ))
 }
 

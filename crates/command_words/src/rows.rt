@@ -87,6 +87,20 @@ pub(crate) const LISTEN: Row<'static> = Row {
     help: "The own address, 1 to 255 printed ASCII characters without spaces",
 };
 
+pub(crate) const READERS: Row<'static> = Row {
+    name: "readers",
+    kind: Kind::Required,
+    value: "COUNT",
+    help: "How many readers there are, 1 to 8",
+};
+
+pub(crate) const READS: Row<'static> = Row {
+    name: "reads",
+    kind: Kind::Required,
+    value: "COUNT",
+    help: "How often each of them reads, 0 to 1000000",
+};
+
 pub(crate) const REOPEN: Row<'static> = Row {
     name: "reopen",
     kind: Kind::Optional,

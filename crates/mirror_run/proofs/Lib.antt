@@ -3,4 +3,4 @@ mod Growing
 mod Notes
 mod Rows
 mod Called
-mod Sourced
+pub mod Sourced

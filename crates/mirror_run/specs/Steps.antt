@@ -45,7 +45,9 @@ step_or_number number (Some step) (Err other) = Err other
 -- the steps of these lines, of which the first has this number, or the number of the first bad one
 unfoldable pub steps_from : ℕ → List (List ℕ) → Result (List MirrorStep) ℕ
 steps_from number [] = Ok []
-steps_from number (line ∷ lines) = if is_passed line then steps_from (number + 1) lines else step_or_number number (step_of line) (steps_from (number + 1) lines)
+steps_from number (line ∷ lines) =
+    if is_passed line then steps_from (number + 1) lines
+    else step_or_number number (step_of line) (steps_from (number + 1) lines)
 
 abbrev pub steps_of : List ℕ → Result (List MirrorStep) ℕ
 steps_of text = steps_from 1 (lines_of text)

@@ -1,25 +1,26 @@
 //! A mirror, from its steps to its text.
 
-ghost use Rattle.std.specs.Prelude.{◌≡◌, ◌≢◌, ◌<◌, ◌≤◌, ℕ, List, length, All, IfOk};
-ghost use Rattle.command_answers.specs.Answers.{Ends, sink_now};
+ghost use Rattle.std.specs.Prelude.{◌≡◌, ◌≢◌, ◌<◌, ◌≤◌, length, All, IfOk};
+ghost use Rattle.command_answers.specs.Answers.{sink_now};
 ghost use Rattle.shadow_mirror.specs.Documents.{doc};
-ghost use Rattle.mirror_run.specs.Answers.{IsText, mirror_answer, published};
+ghost use Rattle.mirror_run.specs.Answers.{EndsAhead, IsText, mirror_answer, published};
 ghost use Rattle.mirror_run.specs.Noted.{none_noted, noted_of};
 
 use crate::printing::page_of;
 use crate::running::{Readers, last_versions, run};
 use crate::steps::{MirrorStep, MirrorSteps};
-use crate::words::MirrorWords;
 use agent_link::{Page, Sink};
 use command_answers::finish;
+use command_words::MirrorWords;
 use list_types::Text;
 use shadow_mirror::{MirrorReader, MirrorWriter, mirror};
 use std::alloc::{AllocError, Global};
 use std::sync::Wait;
 use std::thread::Threads;
 
-/// Does the steps while the readers read, each on a thread of its own, and writes a line for each reader, the published document
-/// and `ok`. Answers the exit status: 0, or 7 where memory ran out, or 8 where the sink failed, behind a front of the text.
+/// Does the steps while the readers read, each on a thread of its own, and writes a line for each reader, the published
+/// document and `ok`. Answers the exit status: 0, or 7 where memory ran out, or 8 where the sink failed, behind a
+/// front of the text.
 pub fn mirror_call<R: Threads + Wait + Sync, O: Sink>(
     rt: &R,
     alloc: Global,
@@ -29,8 +30,8 @@ pub fn mirror_call<R: Threads + Wait + Sync, O: Sink>(
 ) -> u8
     requires readers { (0 < words.now.readers) × (words.now.readers ≤ 8) }
     // Each reader's last version is that of the published document, or so many later ones.
-    ensures ends { (ahead : List ℕ) × (length ahead ≡ words.now.readers) × Ends result (sink_now (O.written out.old) (O.faults out.old))
-        (sink_now (O.written out.new) (O.faults out.new)) (mirror_answer words.now steps ahead) }
+    ensures ends { EndsAhead words.now.readers result (sink_now (O.written out.old) (O.faults out.old))
+        (sink_now (O.written out.new) (O.faults out.new)) (mirror_answer words.now steps) }
     ensures no_words { result ≢ 1 }
     ensures no_source { result ≢ 9 }
 {

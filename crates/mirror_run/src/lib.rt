@@ -6,12 +6,10 @@ mod command;
 mod printing;
 mod running;
 mod steps;
-mod words;
 
 pub use call::mirror_call;
 pub use command::mirror_command;
 pub use steps::{MirrorStep, MirrorSteps, StepsFault, read_steps};
-pub use words::MirrorWords;
 
 #[cfg(test)]
 mod tests;

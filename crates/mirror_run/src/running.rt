@@ -1,6 +1,7 @@
 //! The run of a mirror: its caller writes while each reader reads on a thread of its own, and then reads once more.
 
-ghost use Rattle.std.specs.Prelude.{◌≡◌, ◌<◌, ◌≤◌, ℕ, All, fold, slice_index_or, vec_len, IfSome, IfOk, OnOk};
+ghost use Rattle.std.specs.Prelude.{◌≡◌, ◌<◌, ◌≤◌, ℕ, All, fold, slice_index_or, vec_len};
+ghost use Rattle.std.specs.Prelude.{IfSome, IfOk, OnOk};
 ghost use Rattle.shadow_mirror.specs.Documents.{doc};
 ghost use Rattle.mirror_run.specs.Noted.{after, noted_of};
 
@@ -45,7 +46,8 @@ fn write_steps<R: Wait>(
     steps: Option<Vec<MirrorStep>>,
 ) -> Result<(), AllocError>
     ensures book { writer.new.published.book ≡ writer.old.published.book }
-    ensures steps { OnOk result (IfSome steps (λ all. noted_of writer.new ≡ fold after (noted_of writer.old) all.items)) }
+    ensures steps { OnOk result (IfSome steps (λ all.
+        noted_of writer.new ≡ fold after (noted_of writer.old) all.items)) }
 {
     match steps {
         Some(steps) => write_each(rt, writer, steps),
@@ -93,7 +95,8 @@ fn read_all<R: Threads + Wait + Sync>(
 ) -> Result<Readers, AllocError>
     ensures count { IfOk result (λ all. IfSome readers (λ before. vec_len all ≡ vec_len before)) }
     ensures readers { IfOk result (λ all. IfSome readers (λ before. (i : ℕ) (d : _) (e : _) → i < vec_len before →
-        IfOk (slice_index_or all.items i d) (λ reader. reader.book ≡ (slice_index_or before.items i e).book))) }
+        IfOk (slice_index_or all.items i d) (λ reader.
+        reader.book ≡ (slice_index_or before.items i e).book))) }
 {
     match readers {
         Some(readers) => thread::map_vec(rt, readers, &|reader| read_often(rt, reader, key, reads)),
@@ -127,7 +130,8 @@ pub(crate) fn last_versions<R: Wait>(
     requires { All (λ reader. IfOk reader (λ r. r.book ≡ writer.old.published.book)) readers.items }
     ensures kept { writer.new ≡ writer.old }
     ensures count { IfOk result (λ versions. vec_len versions ≡ vec_len readers) }
-    ensures late { IfOk result (λ versions. All (λ version. (doc writer.old.published.changes).version ≤ version) versions.items) }
+    ensures late { IfOk result (λ versions.
+        All (λ version. (doc writer.old.published.changes).version ≤ version) versions.items) }
 {
     let mut versions = Vec::with_capacity(alloc, readers.len())?;
     for reader in readers {

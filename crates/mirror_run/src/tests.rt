@@ -4,6 +4,7 @@ ghost use Rattle.std.specs.Prelude.{◌≡◌, ◌<◌, ◌≤◌};
 
 use super::*;
 use agent_link::{Fault, MemSink, MemSource, Sink};
+use command_words::MirrorWords;
 use std::alloc::Global;
 use std::sync::Wait;
 use std::test::Fail;
@@ -45,7 +46,11 @@ fn answers<R: Threads + Wait + Sync>(
 /// {"version":1,"state":{"desired":{"a":1}}}
 /// {"version":2,"state":{"desired":{"a":null,"b":"x"}}}
 const TWO: &[u8] =
-    b"change 7b2276657273696f6e223a312c227374617465223a7b2264657369726564223a7b2261223a317d7d7d\npublish\nchange 7b2276657273696f6e223a322c227374617465223a7b2264657369726564223a7b2261223a6e756c6c2c2262223a2278227d7d7d\npublish\n";
+    b"change 7b2276657273696f6e223a312c227374617465223a7b2264657369726564223a7b2261223a317d7d7d\n\
+         publish\n\
+         change 7b2276657273696f6e223a322c227374617465223a7b2264657369726564223a7b2261223a6e756c6c2c22622\
+         23a2278227d7d7d\n\
+         publish\n";
 
 #[test]
 fn each_reader_ends_at_what_is_published(rt: HostRuntime) -> Result<(), Fail> {
@@ -55,11 +60,14 @@ fn each_reader_ends_at_what_is_published(rt: HostRuntime) -> Result<(), Fail> {
 }
 
 /// {"version":2,"state":{"desired":{"a":null,"b":"x"}}}
-/// {"version":1,"state":{"desired":{"b":true}}}
+/// {"version":1,"state":{"desired":{"b":7}}}
 #[test]
 fn an_old_version_leaves_the_document(rt: HostRuntime) -> Result<(), Fail> {
     let text =
-        b"change 7b2276657273696f6e223a322c227374617465223a7b2264657369726564223a7b2261223a6e756c6c2c2262223a2278227d7d7d\nchange 7b2276657273696f6e223a312c227374617465223a7b2264657369726564223a7b2262223a747275657d7d7d\npublish\n";
+        b"change 7b2276657273696f6e223a322c227374617465223a7b2264657369726564223a7b2261223a6e756c6c2c22622\
+             23a2278227d7d7d\n\
+             change 7b2276657273696f6e223a312c227374617465223a7b2264657369726564223a7b2262223a377d7d7d\n\
+             publish\n";
     assert!(rt;
         answers(
             &rt,
@@ -78,7 +86,10 @@ fn an_old_version_leaves_the_document(rt: HostRuntime) -> Result<(), Fail> {
 #[test]
 fn what_is_not_published_is_not_printed(rt: HostRuntime) -> Result<(), Fail> {
     let text =
-        b"change 7b2276657273696f6e223a322c227374617465223a7b2264657369726564223a7b2261223a6e756c6c2c2262223a2278227d7d7d\npublish\nchange 7b2276657273696f6e223a332c227374617465223a7b2264657369726564223a7b2262223a2279227d7d7d\n";
+        b"change 7b2276657273696f6e223a322c227374617465223a7b2264657369726564223a7b2261223a6e756c6c2c22622\
+             23a2278227d7d7d\n\
+             publish\n\
+             change 7b2276657273696f6e223a332c227374617465223a7b2264657369726564223a7b2262223a2279227d7d7d\n";
     assert!(rt;
         answers(
             &rt,
@@ -96,9 +107,18 @@ fn what_is_not_published_is_not_printed(rt: HostRuntime) -> Result<(), Fail> {
 #[test]
 fn each_form_of_a_key_is_printed(rt: HostRuntime) -> Result<(), Fail> {
     let text =
-        b"change 7b2276657273696f6e223a372c227374617465223a7b2264657369726564223a7b22223a22222c22612062223a22632564222c2266223a66616c73652c226e223a2d393232333337323033363835343737353830382c2270223a34322c2274223a747275657d7d7d\npublish\n";
-    let want =
-        b"reader 0 reads 1 last 7\nkey - -\nkey a%20b c%25d\nkey f false\nkey n -9223372036854775808\nkey p 42\nkey t true\nok\n";
+        b"change 7b2276657273696f6e223a372c227374617465223a7b2264657369726564223a7b22223a22222c22612062223\
+             a22632564222c2266223a66616c73652c226e223a2d393232333337323033363835343737353830382c2270223a34322\
+             c2274223a747275657d7d7d\n\
+             publish\n";
+    let want = b"reader 0 reads 1 last 7\n\
+             key - -\n\
+             key a%20b c%25d\n\
+             key f false\n\
+             key n -9223372036854775808\n\
+             key p 42\n\
+             key t true\n\
+             ok\n";
     assert!(rt; answers(&rt, rt.alloc(), (1, 1), text, want, 0)?);
     Ok(())
 }
@@ -113,7 +133,9 @@ fn a_bad_line_is_refused_with_its_number(rt: HostRuntime) -> Result<(), Fail> {
             b"fault script 3\n".as_slice(),
         ),
         (
-            b"publish\nchange 7b2276657273696f6e223a332c227374617465223a7b2264657369726564223a7b2262223a5b5d7d7d7d\n".as_slice(),
+            b"publish\n\
+                 change 7b2276657273696f6e223a332c227374617465223a7b2264657369726564223a7b2262223a5b5d7d7d7d\n"
+                .as_slice(),
             b"fault script 2\n".as_slice(),
         ),
     ] {

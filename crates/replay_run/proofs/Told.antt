@@ -1,5 +1,5 @@
 -- From what was read to the whole answer.
-use Rattle.std.proofs.Common.{◌≡◌, ℕ, ◌+◌, ◌<◌, ◌≤◌, ◌⊎◌, inl, cond, List, length, Option, IfSome, Result, Ok, Err, refl, sym, ap, ◌∙◌, subst}
+use Rattle.std.proofs.Common.{◌≡◌, ℕ, ◌+◌, ◌<◌, ◌≤◌, ◌⊎◌, cond, List, length, Option, IfSome, Result, Ok, Err, refl, sym, ap, ◌∙◌, subst}
 use Rattle.std.specs.Prelude.{◌==◌}
 use Rattle.std.proofs.lemmas.Bool.{le-ltb, ne_eqb}
 use Rattle.plain_text.specs.Lines.{lines_of}
@@ -7,20 +7,17 @@ use Rattle.broker_tape.specs.declared.tape.Item.{Item}
 use Rattle.agent_script.specs.declared.script.Script.{Script}
 use Rattle.agent_script.specs.Scripts.{script_of}
 use Rattle.command_answers.specs.Answers.{Answer, Ends, sink_now}
-use Rattle.command_answers.specs.Sources.{EndsBySource, bad_line, source_limit, source_now, too_long, within_limit}
+use Rattle.command_answers.specs.Sources.{EndsBySource, bad_line, source_limit, source_now}
+use Rattle.command_answers.proofs.Sourced.{by_text}
 use Rattle.command_words.specs.declared.words.RunWords.{RunWords}
 use Rattle.replay_run.specs.Commands.{source_answer, text_answer, script_answer, named_answer, tape_answer, first_said}
 use Rattle.thing_script.specs.Topics.{script_with}
-
-is_within : (to : List ℕ → Answer) (text : List ℕ) → length text ≤ source_limit → within_limit to text ≡ to text
-unfolding within_limit
-is_within to text short = ap (λ b. cond b too_long (to text)) (le-ltb source_limit (length text) short)
 
 -- a source that was read to its end is judged by its text
 pub source_told : (words : RunWords) (text : List ℕ) (status : ℕ) (a b : Option (List ℕ)) (faults faults_then : ℕ) (old new : Option (List ℕ)) (f g : ℕ) → IfSome a (λ all. all ≡ text) → length text ≤ source_limit → faults_then ≡ faults
     → Ends status (sink_now old f) (sink_now new g) (text_answer words text) → EndsBySource status (source_now a faults) (source_now b faults_then) (sink_now old f) (sink_now new g) (source_answer words)
 source_told words text status a b faults faults_then old new f g all short same h =
-    inl (record { text = text; is_all = all; faults = same; ends = subst (Ends status (sink_now old f) (sink_now new g)) (sym (is_within (text_answer words) text short)) h })
+    by_text (text_answer words) text status a b faults faults_then (sink_now old f) (sink_now new g) all short same h
 
 -- a bad line of the script
 pub line_told : (words : RunWords) (text : List ℕ) (number status : ℕ) (old new : Option (List ℕ)) (f g : ℕ) → script_of text ≡ Err number → Ends status (sink_now old f) (sink_now new g) (bad_line number) → Ends status (sink_now old f) (sink_now new g) (text_answer words text)

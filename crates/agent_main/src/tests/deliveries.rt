@@ -5,7 +5,6 @@ use super::*;
 
 #[test]
 fn deliveries_go_on_where_they_stopped(rt: HostRuntime) -> Result<(), Fail> {
-    let alloc = rt.alloc();
     for (words, text, want, status) in [
         (
             ["replay", "--client", "dev"].as_slice(),
@@ -20,14 +19,13 @@ fn deliveries_go_on_where_they_stopped(rt: HostRuntime) -> Result<(), Fail> {
             0,
         ),
     ] {
-        assert!(rt; answers(alloc, words, text, want, status)?);
+        assert!(rt; answers(&rt, words, text, want, status)?);
     }
     Ok(())
 }
 
 #[test]
 fn subscriptions_outlive_a_session(rt: HostRuntime) -> Result<(), Fail> {
-    let alloc = rt.alloc();
     for (words, text, want, status) in [
         (
             ["replay", "--client", "dev"].as_slice(),
@@ -78,14 +76,13 @@ fn subscriptions_outlive_a_session(rt: HostRuntime) -> Result<(), Fail> {
             0,
         ),
     ] {
-        assert!(rt; answers(alloc, words, text, want, status)?);
+        assert!(rt; answers(&rt, words, text, want, status)?);
     }
     Ok(())
 }
 
 #[test]
 fn an_agent_ends_in_time(rt: HostRuntime) -> Result<(), Fail> {
-    let alloc = rt.alloc();
     for (words, text, want, status) in [
         (
             ["replay", "--client", "dev"].as_slice(),
@@ -118,7 +115,7 @@ fn an_agent_ends_in_time(rt: HostRuntime) -> Result<(), Fail> {
             3,
         ),
     ] {
-        assert!(rt; answers(alloc, words, text, want, status)?);
+        assert!(rt; answers(&rt, words, text, want, status)?);
     }
     Ok(())
 }

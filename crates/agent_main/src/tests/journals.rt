@@ -5,7 +5,6 @@ use super::*;
 
 #[test]
 fn each_word_of_a_journal_is_printed(rt: HostRuntime) -> Result<(), Fail> {
-    let alloc = rt.alloc();
     for (words, text, want, status) in [
         (
             ["replay", "--client", "dev", "--size", "tiny"].as_slice(),
@@ -32,7 +31,7 @@ fn each_word_of_a_journal_is_printed(rt: HostRuntime) -> Result<(), Fail> {
             5,
         ),
     ] {
-        assert!(rt; answers(alloc, words, text, want, status)?);
+        assert!(rt; answers(&rt, words, text, want, status)?);
     }
     Ok(())
 }

@@ -2,11 +2,9 @@
 
 use super::replays::{LISTENED, PASSED, answers};
 use super::*;
-use std::alloc::Global;
 
 #[test]
 fn a_broker_may_say_what_it_should_not(rt: HostRuntime) -> Result<(), Fail> {
-    let alloc = rt.alloc();
     for (words, text, want, status) in [
         (
             ["replay", "--client", "dev"].as_slice(),
@@ -33,7 +31,7 @@ fn a_broker_may_say_what_it_should_not(rt: HostRuntime) -> Result<(), Fail> {
             3,
         ),
     ] {
-        assert!(rt; answers(alloc, words, text, want, status)?);
+        assert!(rt; answers(&rt, words, text, want, status)?);
     }
     Ok(())
 }
@@ -66,7 +64,7 @@ fn a_connection_may_break_at_each_byte(rt: HostRuntime) -> Result<(), Fail> {
         };
         assert!(rt;
             answers(
-                alloc,
+                &rt,
                 ["replay", "--client", "dev"].as_slice(),
                 text.as_bytes(),
                 want,
@@ -79,31 +77,38 @@ fn a_connection_may_break_at_each_byte(rt: HostRuntime) -> Result<(), Fail> {
 }
 
 /// The status where call k of the source fails, and what is written.
-fn read_failing(alloc: Global, k: u64) -> Result<(u8, bool), Fail> {
+fn read_failing<R: Threads + Wait + Sync + AllocGlobal>(
+    rt: &R,
+    k: u64,
+) -> Result<(u8, bool), Fail> {
+    let alloc = rt.alloc();
     let mut source = MemSource::new(PUBLISHED.to_vec(alloc)?, vec![in alloc; k]?);
     let mut sink = MemSink::new(alloc, Vec::new(alloc));
     let words = ["replay", "--client", "dev"];
-    let status = top(alloc, words.as_slice(), &mut source, &mut sink);
+    let status = top(rt, alloc, words.as_slice(), &mut source, &mut sink);
     Ok((status, sink.bytes() == b"fault source\n".as_slice()))
 }
 
 /// The status where call k of the sink fails, and whether a front of the text was written.
-fn write_failing(alloc: Global, k: u64) -> Result<(u8, bool), Fail> {
+fn write_failing<R: Threads + Wait + Sync + AllocGlobal>(
+    rt: &R,
+    k: u64,
+) -> Result<(u8, bool), Fail> {
+    let alloc = rt.alloc();
     let mut source = MemSource::new(LISTENED.to_vec(alloc)?, Vec::new(alloc));
     let mut sink = MemSink::new(alloc, vec![in alloc; k]?);
     let words = ["replay", "--client", "dev"];
-    let status = top(alloc, words.as_slice(), &mut source, &mut sink);
+    let status = top(rt, alloc, words.as_slice(), &mut source, &mut sink);
     Ok((status, PASSED.starts_with(sink.bytes())))
 }
 
 #[test]
 fn each_call_of_source_and_sink_may_fail(rt: HostRuntime) -> Result<(), Fail> {
-    let alloc = rt.alloc();
-    assert_eq!(rt; read_failing(alloc, 0)?, (9, true));
-    assert_eq!(rt; read_failing(alloc, 1)?, (9, true));
-    assert_eq!(rt; read_failing(alloc, 2)?, (0, false));
-    assert_eq!(rt; write_failing(alloc, 0)?, (8, true));
-    assert_eq!(rt; write_failing(alloc, 1)?, (0, true));
+    assert_eq!(rt; read_failing(&rt, 0)?, (9, true));
+    assert_eq!(rt; read_failing(&rt, 1)?, (9, true));
+    assert_eq!(rt; read_failing(&rt, 2)?, (0, false));
+    assert_eq!(rt; write_failing(&rt, 0)?, (8, true));
+    assert_eq!(rt; write_failing(&rt, 1)?, (0, true));
     Ok(())
 }
 
@@ -122,7 +127,7 @@ fn messages_without_a_route_have_no_effects(rt: HostRuntime) -> Result<(), Fail>
         "@0 opened\n  send 100f00044d5154540400003c0003646576\n@0 arrived 20020000\n@0 take 0 0 publish 1 a/b 6869\n  send 32090003612f6200016869\n{arrived}@0 arrived 40020001\n  done 0 0 done\n@0 take 0 1 leave\n@0 finish\n  send e000\ntask 0 sent 1 got 1 messages 0\nok\n"
     )?;
     let words = ["replay", "--client", "dev"];
-    assert!(rt; answers(alloc, words.as_slice(), text.as_bytes(), want.as_bytes(), 0)?);
+    assert!(rt; answers(&rt, words.as_slice(), text.as_bytes(), want.as_bytes(), 0)?);
     Ok(())
 }
 
@@ -149,7 +154,7 @@ fn each_receive_may_fail(rt: HostRuntime) -> Result<(), Fail> {
         )?;
         let words = ["replay", "--client", "dev", "--reopen", "0"];
         assert!(rt;
-            answers(alloc, words.as_slice(), text.as_bytes(), want.as_bytes(), 3)?,
+            answers(&rt, words.as_slice(), text.as_bytes(), want.as_bytes(), 3)?,
             "at {tape:?}"
         );
     }

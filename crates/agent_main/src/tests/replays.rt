@@ -1,7 +1,6 @@
 //! Replays through the whole program: words, a script and a tape give the text and the status.
 
 use super::*;
-use std::alloc::Global;
 
 /// A task subscribes and listens, and a message comes twice at QoS 2.
 pub(super) const LISTENED: &[u8] =
@@ -12,22 +11,22 @@ pub(super) const PASSED: &[u8] =
     b"@0 opened\n  send 100f00044d5154540400003c0003646576\n@0 arrived 20020000\n@0 take 0 0 subscribe a/# 2 a/b 1\n  send 820e00010003612f23020003612f6201\n@0 arrived 900400010201\n  done 0 0 granted 0201\n@0 arrived 34090003612f6200076869\n  pass 0 2 a/b 6869\n  send 50020007\n@0 arrived 3c090003612f6200076869\n  send 50020007\n@0 arrived 62020007\n  send 70020007\n@0 take 0 1 leave\n@0 finish\n  send e000\ntask 0 sent 1 got 1 messages 1\nok\n";
 
 /// Whether these words with this source write this text and have this status.
-pub(super) fn answers(
-    alloc: Global,
+pub(super) fn answers<R: Threads + Wait + Sync + AllocGlobal>(
+    rt: &R,
     words: &[&str],
     text: &[u8],
     want: &[u8],
     status: u8,
 ) -> Result<bool, Fail> {
+    let alloc = rt.alloc();
     let mut source = MemSource::new(text.to_vec(alloc)?, Vec::new(alloc));
     let mut sink = MemSink::new(alloc, Vec::new(alloc));
-    let answer = top(alloc, words, &mut source, &mut sink);
+    let answer = top(rt, alloc, words, &mut source, &mut sink);
     Ok(answer == status && sink.bytes() == want)
 }
 
 #[test]
 fn answers_decide(rt: HostRuntime) -> Result<(), Fail> {
-    let alloc = rt.alloc();
     for (words, text, want, status) in [
         (
             ["replay", "--client", "dev"].as_slice(),
@@ -54,14 +53,13 @@ fn answers_decide(rt: HostRuntime) -> Result<(), Fail> {
             5,
         ),
     ] {
-        assert!(rt; answers(alloc, words, text, want, status)?);
+        assert!(rt; answers(&rt, words, text, want, status)?);
     }
     Ok(())
 }
 
 #[test]
 fn commands_outlive_a_connection(rt: HostRuntime) -> Result<(), Fail> {
-    let alloc = rt.alloc();
     for (words, text, want, status) in [
         (
             ["replay", "--client", "dev"].as_slice(),
@@ -88,14 +86,13 @@ fn commands_outlive_a_connection(rt: HostRuntime) -> Result<(), Fail> {
             0,
         ),
     ] {
-        assert!(rt; answers(alloc, words, text, want, status)?);
+        assert!(rt; answers(&rt, words, text, want, status)?);
     }
     Ok(())
 }
 
 #[test]
 fn messages_are_passed_once(rt: HostRuntime) -> Result<(), Fail> {
-    let alloc = rt.alloc();
     for (words, text, want, status) in [
         (
             ["replay", "--client", "dev"].as_slice(),
@@ -110,14 +107,13 @@ fn messages_are_passed_once(rt: HostRuntime) -> Result<(), Fail> {
             3,
         ),
     ] {
-        assert!(rt; answers(alloc, words, text, want, status)?);
+        assert!(rt; answers(&rt, words, text, want, status)?);
     }
     Ok(())
 }
 
 #[test]
 fn requests_have_their_outcomes(rt: HostRuntime) -> Result<(), Fail> {
-    let alloc = rt.alloc();
     for (words, text, want, status) in [
         (
             ["replay", "--client", "dev"].as_slice(),
@@ -149,28 +145,26 @@ fn requests_have_their_outcomes(rt: HostRuntime) -> Result<(), Fail> {
             3,
         ),
     ] {
-        assert!(rt; answers(alloc, words, text, want, status)?);
+        assert!(rt; answers(&rt, words, text, want, status)?);
     }
     Ok(())
 }
 
 #[test]
 fn a_thing_has_topics(rt: HostRuntime) -> Result<(), Fail> {
-    let alloc = rt.alloc();
     for (words, text, want, status) in [(
         ["replay", "--client", "dev", "--thing", "T"].as_slice(),
         b"tasks 1\n0 shadow get - -\ntape\nopen\nhear 20020000\nhear 40020001\n".as_slice(),
         b"@0 opened\n  send 100f00044d5154540400003c0003646576\n@0 arrived 20020000\n@0 take 0 0 publish 1 $aws/things/T/shadow/get -\n  send 321c0018246177732f7468696e67732f542f736861646f772f6765740001\n@0 arrived 40020001\n  done 0 0 done\n@0 take 0 1 leave\n@0 finish\n  send e000\ntask 0 sent 1 got 1 messages 0\nkinds 0 shadow 0 jobs 0\nok\n".as_slice(),
         0,
     )] {
-        assert!(rt; answers(alloc, words, text, want, status)?);
+        assert!(rt; answers(&rt, words, text, want, status)?);
     }
     Ok(())
 }
 
 #[test]
 fn bad_lines_are_refused(rt: HostRuntime) -> Result<(), Fail> {
-    let alloc = rt.alloc();
     for (words, text, want, status) in [
         (
             ["replay", "--client", "dev"].as_slice(),
@@ -203,7 +197,7 @@ fn bad_lines_are_refused(rt: HostRuntime) -> Result<(), Fail> {
             2,
         ),
     ] {
-        assert!(rt; answers(alloc, words, text, want, status)?);
+        assert!(rt; answers(&rt, words, text, want, status)?);
     }
     Ok(())
 }

@@ -12,7 +12,19 @@ fn tells(
     pieces: &[&str],
 ) -> Result<bool, AllocError> {
     let words = ["replay", "--clent", "dev"];
-    let told = told(alloc, status, words.as_slice(), text, line)?;
+    tells_of(alloc, words.as_slice(), status, text, line, pieces)
+}
+
+/// The same of these words.
+fn tells_of<'a>(
+    alloc: Global,
+    words: &'a [&'a str],
+    status: u8,
+    text: &[u8],
+    line: &[u8],
+    pieces: &[&str],
+) -> Result<bool, AllocError> {
+    let told = told(alloc, status, words, text, line)?;
     Ok(pieces.iter().all(|piece| told.contains(piece)))
 }
 
@@ -57,6 +69,24 @@ fn a_refused_line_is_told_with_what_may_stand_there(rt: HostRuntime) -> Result<(
     ] {
         assert!(rt; tells(alloc, 2, text, line, pieces.as_slice())?);
     }
+    Ok(())
+}
+
+#[test]
+fn a_refused_change_is_told_with_what_may_stand_there(rt: HostRuntime) -> Result<(), Fail> {
+    let alloc = rt.alloc();
+    let words = ["mirror", "--readers", "1", "--reads", "0"];
+    let pieces = ["line 2: change 7b", "`publish`", "`change HEX`"];
+    assert!(rt;
+        tells_of(
+            alloc,
+            words.as_slice(),
+            2,
+            b"publish\nchange 7b\n",
+            b"fault script 2\n",
+            pieces.as_slice()
+        )?
+    );
     Ok(())
 }
 

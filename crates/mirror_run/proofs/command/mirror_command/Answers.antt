@@ -1,8 +1,8 @@
 use Rattle.std.proofs.Common.{ℕ, List, subst}
 use Rattle.command_answers.specs.Answers.{sink_now}
-use Rattle.mirror_run.specs.Answers.{steps_answer}
+use Rattle.mirror_run.specs.Answers.{EndsAhead, steps_answer}
 use Rattle.mirror_run.specs.Steps.{steps_of}
-use Rattle.mirror_run.proofs.Sourced.{EndsAhead, source_ends, source_fails}
+use Rattle.mirror_run.proofs.Sourced.{source_ends, source_fails}
 use Rattle.mirror_run.proofs.command.mirror_command.Goals as goal
 
 pub returns-in-Ok-clause-ends : goal.returns-in-Ok-clause-ends
