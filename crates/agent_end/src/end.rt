@@ -81,4 +81,14 @@ impl<
     {
         self.intake.recorder().entries()
     }
+
+    /// The agent with its end of the queue, and its ends of the mailboxes.
+    pub fn into_parts(self) -> (Intake<J, QUEUE, ACKS, IN, ROUTES>, Posts<J, INBOX>)
+        ensures taking { result.0 ≡ self.taking }
+        ensures mail { result.1 ≡ self.mail }
+        ensures serving { IsServing self }
+    {
+        let AgentEnd { intake, posts, .. } = self;
+        (intake, posts)
+    }
 }

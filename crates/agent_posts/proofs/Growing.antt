@@ -15,7 +15,7 @@ use Rattle.agent_posts.proofs.Waiting.{from_start}
 
 -- ---- Entries more
 
-told_both : (t number : ℕ) (xs ys : List Entry) → told_in t number (xs ++ ys) ≡ told_in t number xs ++ told_in t (number + length xs) ys
+pub told_both : (t number : ℕ) (xs ys : List Entry) → told_in t number (xs ++ ys) ≡ told_in t number xs ++ told_in t (number + length xs) ys
 told_both t number [] ys = ap (λ n. told_in t n ys) (omega arith)
 told_both t number (e ∷ xs) ys =
     ap (λ rest. placed number (notes_by t e) ++ rest) (told_both t (number + 1) xs ys ∙ ap (λ n. told_in t (number + 1) xs ++ told_in t n ys) (omega arith))

@@ -67,6 +67,14 @@ impl<J: Named, const INBOX: usize> Posts<J, INBOX> {
         }
     }
 
+    /// The ends of the mailboxes, by task.
+    pub fn into_posts(self) -> Vec<Post<J, INBOX>>
+        ensures { result.items ≡ self.putters }
+    {
+        let Posts { posts, .. } = self;
+        posts
+    }
+
     /// Puts the next note that waits, if there is one. `entries` is the journal, oldest first, and at least all of it is shown.
     /// Where memory runs out nothing was put.
     pub fn put<R: Wait>(

@@ -196,7 +196,7 @@ leave_in t entry c.Tick = refl
 leave_in t entry c.GaveUp = refl
 leave_in t entry c.Finish = refl
 
-left_taken : (t : ℕ) (past : List Entry) → has_left t past ≡ left_in t (takes_in past)
+pub left_taken : (t : ℕ) (past : List Entry) → has_left t past ≡ left_in t (takes_in past)
 left_taken t [] = refl
 left_taken t (e ∷ past) =
     ap (λ b. leaves_by t e.cause || b) (left_taken t past) ∙ or_swap (leaves_by t e.cause) (left_in t (takes_in past)) ∙ ap (λ b. left_in t (takes_in past) || b) (sym (leave_in t (length past) e.cause))
@@ -223,7 +223,7 @@ leave_by : (b : Bool) (s : Submission) (rest : List Submission) → has_leave (c
 leave_by true s rest = refl
 leave_by false s rest = refl
 
-leave_taken : (t : ℕ) (taken : List Submission) (takes : List (ℕ × Cause)) → BecomeAll taken takes → has_leave (of_task t taken) ≡ left_in t takes
+pub leave_taken : (t : ℕ) (taken : List Submission) (takes : List (ℕ × Cause)) → BecomeAll taken takes → has_leave (of_task t taken) ≡ left_in t takes
 leave_taken t [] [] h = refl
 leave_taken t [] (take ∷ takes) h = absurd h
 leave_taken t (s ∷ taken) [] h = absurd h

@@ -78,4 +78,25 @@ impl<J: Named, const QUEUE: usize, const ACKS: usize, const IN: usize, const ROU
     {
         &self.recorder
     }
+
+    /// The agent with its journal, and its end of the queue.
+    pub fn into_parts(
+        self,
+    ) -> (
+        Recorder<ACKS, IN, ROUTES>,
+        Arc<CommandQueue<J, QUEUE>, Global>,
+        RecvPass,
+    )
+        ensures recorder { result.0 ≡ self.recorded }
+        ensures receiver { result.2 ≡ self.receiver }
+        ensures own { result.2.queue ≡ arc_value result.1 }
+    {
+        let Intake {
+            recorder,
+            queue,
+            receiver,
+            ..
+        } = self;
+        (recorder, queue, receiver)
+    }
 }
