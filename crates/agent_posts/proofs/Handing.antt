@@ -1,17 +1,15 @@
 -- Notes are made and put, and what was told stays in order.
-use Rattle.std.proofs.Common.{◌≡◌, ◌≢◌, ℕ, zero, suc, ◌+◌, ◌<◌, ◌≤◌, Bool, true, false, cond, List, [], ◌∷◌, ◌++◌, length, map, drop, Option, Some, None, refl, sym, ap, ◌∙◌, subst, arith, eq-eqb, ne_eqb, append_assoc, append-nil, ◌⊎◌, inl, inr}
-use Rattle.std.specs.Prelude.{slice_get, slice_set, get_or, ◌==◌, Result, Ok, Err, OnErr}
-use Rattle.std.proofs.lemmas.List.{length-set, drop_all}
+use Rattle.std.proofs.Common.{◌≡◌, ◌≢◌, ℕ, zero, suc, ◌+◌, ◌<◌, cond, List, [], ◌∷◌, ◌++◌, length, Option, Some, None, refl, sym, ap, ◌∙◌, subst, arith, eq-eqb, ne_eqb, append_assoc, append-nil, ◌⊎◌, inl, inr}
+use Rattle.std.specs.Prelude.{slice_get, slice_set, get_or, Result, Ok, Err, OnErr}
 use Rattle.std.proofs.lemmas.Option.{slice_get_within, slice_get-get_or}
-use Rattle.agent_journal.specs.declared.effect.Effect.{Effect}
 use Rattle.agent_journal.specs.declared.entry.Entry.{Entry}
 use Rattle.agent_journal.specs.Notes.{noted}
 use Rattle.task_queues.specs.declared.note.Note.{Note}
 use Rattle.task_queues.specs.MailboxPasses.{Putting}
 use Rattle.agent_posts.specs.declared.place.Place.{Place}
-use Rattle.agent_posts.specs.Waiting.{Placed, told, told_in, waiting, IsPlaceIn, IsTold, WaitsAlike, NoneWaits, behind}
-use Rattle.agent_posts.specs.Mail.{Mail, said, Tells, IsMadeAt, AreTold, held_for, IsMadeTo, IsPosted, IsAllPut, PutsOne, FindsFull}
-use Rattle.agent_posts.proofs.Waiting.{waits_other, waits_own, is_known, place_within, none_at_end}
+use Rattle.agent_posts.specs.Waiting.{Placed, told, waiting, IsPlaceIn, IsTold, WaitsAlike, NoneWaits, behind}
+use Rattle.agent_posts.specs.Mail.{said, Tells, IsMadeAt, AreTold, held_for, IsMadeTo, IsPosted, PutsOne, FindsFull}
+use Rattle.agent_posts.proofs.Waiting.{waits_other, waits_own, place_within, none_at_end}
 
 -- ---- Lists
 
