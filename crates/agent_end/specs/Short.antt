@@ -6,9 +6,9 @@ use Rattle.agent_journal.specs.Readings.{last_time_of}
 use Rattle.task_queues.specs.declared.note.Note.{Note}
 use Rattle.task_queues.specs.MailboxPasses.{Putting, WasFull}
 use Rattle.agent_posts.specs.Kinds as kinds
-use Rattle.agent_posts.specs.Mail.{Mail, PutsOne, FindsFull}
+use Rattle.agent_posts.specs.Mail.{PutsOne, FindsFull}
 use Rattle.agent_requests.specs.declared.answers.Popped.{Popped}
-use Rattle.agent_requests.specs.Intake.{Taking, Pops, FoundEmpty}
+use Rattle.agent_requests.specs.Intake.{Pops, FoundEmpty}
 use Rattle.agent_end.specs.Serving.{Serving}
 use Rattle.agent_end.specs.Owed.{commands_in, left_in, dones_in, closed_in}
 use Rattle.agent_end.specs.declared.turn.Turn.{Turn}
@@ -26,14 +26,14 @@ pub record Fails (a : Serving) (t : ℕ) (note : Note) : Type 0 where
   pub is : note ≡ kinds.failed seq (time_of a)
   pub putter : Putting
   pub there : slice_get a.mail.putters t ≡ Some putter
-  pub open : dones_in seq putter.put < commands_in t seq a.taking.receiver.taken
+  pub undone : dones_in seq putter.put < commands_in t seq a.taking.receiver.taken
 
 -- that a task is closed which hasn't left, and whose Closed wasn't put
 pub record Closes (a : Serving) (t : ℕ) (note : Note) : Type 0 where
   pub is : note ≡ kinds.closed (time_of a)
   pub putter : Putting
   pub there : slice_get a.mail.putters t ≡ Some putter
-  pub open : closed_in putter.put ≡ false
+  pub unclosed : closed_in putter.put ≡ false
   pub stays : left_in t a.taking.receiver.taken ≡ false
 
 -- The note that is held is put next; where there is none, one of these.
@@ -45,6 +45,10 @@ pub record AreAllTold (a : Serving) : Type 0 where
   pub none_held : a.mail.next ≡ None
   pub done : (t : ℕ) (p : Putting) → slice_get a.mail.putters t ≡ Some p → (seq : ℕ) → dones_in seq p.put ≡ commands_in t seq a.taking.receiver.taken
   pub closed : (t : ℕ) (p : Putting) → slice_get a.mail.putters t ≡ Some p → (closed_in p.put || left_in t a.taking.receiver.taken) ≡ true
+
+-- The next note is held: the one that was, or one that was owed where none was.
+abbrev pub IsHeld : Serving → Serving → Type 0
+IsHeld old new = (t : ℕ) (note : Note) → new.mail.next ≡ Some (t, note) → IsNext old t note
 
 -- ---- What a turn does
 

@@ -1,11 +1,12 @@
 //! What the agent owes its tasks, in room that is there before it is needed.
 
-ghost use Rattle.std.specs.Prelude.{◌≡◌, ℕ, ◌+◌, ◌<◌, ◌≤◌, ◌&&◌, ◌||◌, ◌==◌, List, [], ◌∷◌, ◌++◌, true, false, not, OnOk, IfSome, IfNone, slice_get, slice_set, Some, if◌then◌else◌, replicate};
-ghost use Rattle.std.specs.List.{AllByRecursion};
+ghost use Rattle.std.specs.Prelude.{◌≡◌, ℕ, ◌+◌, ◌<◌, ◌≤◌, ◌&&◌, ◌==◌, [], true, false, OnOk, IfSome, IfNone, slice_get, slice_set, Some, if◌then◌else◌, replicate};
+ghost use Rattle.std.specs.List.{position};
 ghost use Rattle.std.specs.Vec.{vec_len, vec_capacity};
-ghost use Rattle.agent_requests.specs.declared.answers.Popped.{Popped};
-ghost use Rattle.agent_end.specs.Owed.{owed_in};
+ghost use Rattle.agent_posts.specs.declared.kind.Kind.{Kind};
+ghost use Rattle.agent_end.specs.Owed.{is_owed, owed_in, commands_with, left_with, done_by, closed_with, IsOneTrue};
 
+use agent_posts::Kind;
 use agent_requests::Popped;
 use mqtt_packet::NoMemory;
 use std::alloc::Global;
@@ -45,45 +46,62 @@ impl Owed {
         self.commands.reserve(1)
     }
 
-    /// A request was taken from the queue.
-    pub fn take(&mut self, popped: Popped)
-        requires known { popped.task < 8 }
+    /// A request was taken from the queue, if one was.
+    pub fn take(&mut self, popped: Option<Popped>)
+        requires known { IfSome popped (λ p. p.task < 8) }
         requires room { vec_len self.old.commands < vec_capacity self.old.commands }
-        ensures commands { self.new.commands.items ≡ if popped.leaves then self.old.commands.items else self.old.commands.items ++ popped ∷ [] }
-        ensures left { self.new.left ≡ if popped.leaves then slice_set self.old.left popped.task true else self.old.left }
+        ensures commands { self.new.commands.items ≡ commands_with self.old.commands.items popped }
+        ensures left { self.new.left ≡ left_with self.old.left popped }
         ensures closed { self.new.closed ≡ self.old.closed }
     {
+        let Some(popped) = popped else {
+            return;
+        };
         if popped.leaves {
-            self.left[popped.task as usize] = true;
-        } else {
-            self.commands.push_reserved(popped);
+            self.leave(popped.task);
+            return;
+        }
+        self.commands.push_reserved(popped);
+    }
+
+    /// A note of this kind was put for a task.
+    pub fn note(&mut self, task: u32, kind: Kind)
+        requires known { task < 8 }
+        requires owed { (seq : ℕ) → kind ≡ Kind.Done seq → 0 < owed_in task seq self.old.commands.items }
+        ensures commands { (t q : ℕ) → owed_in t q self.new.commands.items + done_by t q task kind ≡ owed_in t q self.old.commands.items }
+        ensures closed { self.new.closed ≡ closed_with self.old.closed task kind }
+        ensures left { self.new.left ≡ self.old.left }
+    {
+        match kind {
+            Kind::Done(seq) => self.settle(task, seq),
+            Kind::Message => {}
+            Kind::Closed => self.close(task, kind),
         }
     }
 
     /// The Done of a command was put.
-    pub fn settle(&mut self, task: u32, seq: u32)
+    fn settle(&mut self, task: u32, seq: u32)
         requires owed { 0 < owed_in task seq self.old.commands.items }
-        ensures one { (t q : ℕ) → owed_in t q self.new.commands.items + (if (task == t) && (seq == q) then 1 else 0) ≡ owed_in t q self.old.commands.items }
-        ensures known { (n : ℕ) → AllByRecursion (λ (p : Popped). p.task < n) self.old.commands.items → AllByRecursion (λ (p : Popped). p.task < n) self.new.commands.items }
+        ensures commands { (t q : ℕ) → owed_in t q self.new.commands.items + (if (task == t) && (seq == q) then 1 else 0) ≡ owed_in t q self.old.commands.items }
         ensures flags { (self.new.closed ≡ self.old.closed) × (self.new.left ≡ self.old.left) }
     {
-        let Some(place) = self
-            .commands
-            .iter()
-            .position(|command| command.task == task && command.seq == seq)
-        else {
+        let Some(place) = place_of(self.commands.as_slice(), task, seq) else {
             unreachable!()
         };
         self.commands.swap_remove(place);
     }
 
-    /// The Closed of a task was put.
-    pub fn close(&mut self, task: u32)
+    /// A note of this kind was put for a task: it may be its Closed.
+    pub fn close(&mut self, task: u32, kind: Kind)
         requires known { task < 8 }
-        ensures closed { self.new.closed ≡ slice_set self.old.closed task true }
+        ensures closed { self.new.closed ≡ closed_with self.old.closed task kind }
         ensures same { (self.new.commands.items ≡ self.old.commands.items) × (self.new.left ≡ self.old.left) }
     {
-        self.closed[task as usize] = true;
+        match kind {
+            Kind::Done(_) => {}
+            Kind::Message => {}
+            Kind::Closed => self.closed[task as usize] = true,
+        }
     }
 
     /// A task's Leave was taken.
@@ -122,4 +140,13 @@ impl Owed {
         }
         true
     }
+}
+
+/// The first place at which a command stands.
+fn place_of(commands: &[Popped], task: u32, seq: u32) -> Option<usize>
+    ensures { result ≡ position (is_owed task seq) commands.now }
+{
+    commands
+        .iter()
+        .position(|command| command.task == task && command.seq == seq)
 }

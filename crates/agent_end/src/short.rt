@@ -1,13 +1,11 @@
 //! Turns of an agent whose memory ran out: it works by the mailboxes alone.
 
-ghost use Rattle.std.specs.Prelude.{◌≡◌, ℕ, ◌⊎◌, true, None, Some};
-ghost use Rattle.task_queues.specs.declared.note.Note.{Note};
-ghost use Rattle.agent_end.specs.Serving.{Serving};
-ghost use Rattle.agent_end.specs.Short.{Fails, Closes, AreAllTold, WorksWithout};
+ghost use Rattle.std.specs.Prelude.{◌≡◌, true, None};
+ghost use Rattle.agent_end.specs.Short.{IsHeld, AreAllTold, WorksWithout};
 
 use crate::end::AgentEnd;
 use crate::turn::Turn;
-use agent_posts::{Kind, Posted};
+use agent_posts::Posted;
 use front_board::Named;
 use mqtt_packet::NoMemory;
 use std::alloc::AllocError;
@@ -30,11 +28,10 @@ impl<
     {
         self.hold_next();
         match self.posts.put_held(rt) {
-            Posted::Put(task, Kind::Closed) => {
-                self.owed.close(task);
+            Posted::Put(task, kind) => {
+                self.owed.close(task, kind);
                 Err(AllocError)
             }
-            Posted::Put(_, _) => Err(AllocError),
             Posted::Full(task) => Ok(Turn::Stalled(task)),
             Posted::Nothing => self.take_without_memory(rt),
         }
@@ -44,7 +41,7 @@ impl<
     fn hold_next(&mut self)
         requires short { self.old.short ≡ true }
         ensures next { IsHeld self.old self.new }
-        ensures none { self.new.mail.next ≡ None → AreAllTold self.new }
+        ensures none { self.new.mail.next ≡ None → (self.new ≡ self.old) × AreAllTold self.new }
         ensures same { self.new ≡ record self.old { mail = record self.old.mail { next = self.new.mail.next } } }
     {
         if self.posts.is_holding() {
@@ -78,10 +75,10 @@ impl<
         };
         if popped.leaves {
             self.owed.leave(popped.task);
-        } else {
-            let at = self.intake.recorder().last_time();
-            self.posts.hold_failure(popped.task, popped.seq, at);
+            return Err(AllocError);
         }
+        let at = self.intake.recorder().last_time();
+        self.posts.hold_failure(popped.task, popped.seq, at);
         Err(AllocError)
     }
 }

@@ -13,15 +13,15 @@ use Rattle.agent_posts.proofs.Waiting.{waits_other, waits_own, place_within, non
 
 -- ---- Lists
 
-same_some : {X : Type 0} (x y : X) → Some x ≡ Some y → x ≡ y
+pub same_some : {X : Type 0} (x y : X) → Some x ≡ Some y → x ≡ y
 same_some x y e = cc e
 
-get_set_same : {X : Type 0} (xs : List X) (i : ℕ) (x y : X) → slice_get xs i ≡ Some y → slice_get (slice_set xs i x) i ≡ Some x
+pub get_set_same : {X : Type 0} (xs : List X) (i : ℕ) (x y : X) → slice_get xs i ≡ Some y → slice_get (slice_set xs i x) i ≡ Some x
 get_set_same [] i x y there = absurd (cc there)
 get_set_same (a ∷ xs) zero x y there = refl
 get_set_same (a ∷ xs) (suc i) x y there = get_set_same xs i x y there
 
-get_set_other : {X : Type 0} (xs : List X) (i j : ℕ) (x : X) → j ≢ i → slice_get (slice_set xs i x) j ≡ slice_get xs j
+pub get_set_other : {X : Type 0} (xs : List X) (i j : ℕ) (x : X) → j ≢ i → slice_get (slice_set xs i x) j ≡ slice_get xs j
 get_set_other [] i j x apart = refl
 get_set_other (a ∷ xs) zero zero x apart = absurd (apart refl)
 get_set_other (a ∷ xs) zero (suc j) x apart = refl
@@ -34,7 +34,7 @@ told_more [] (other ∷ notes) more note h k = absurd h
 told_more (f ∷ from) [] more note h k = absurd h
 told_more (f ∷ from) (other ∷ notes) more note h k = (h.0, told_more from notes more note h.1 k)
 
-is_same : (a b : ℕ) → (a ≡ b) ⊎ (a ≢ b)
+pub is_same : (a b : ℕ) → (a ≡ b) ⊎ (a ≢ b)
 is_same zero zero = inl refl
 is_same zero (suc b) = inr (λ e. absurd (omega (arith, e)))
 is_same (suc a) zero = inr (λ e. absurd (omega (arith, e)))
@@ -43,10 +43,10 @@ is_same (suc a) (suc b) = elim (is_same a b) [
   | inr apart ↦ inr (λ e. apart (omega (arith, e)))
 ]
 
-held_own : (t : ℕ) (note : Note) → held_for t (Some (t, note)) ≡ note ∷ []
+pub held_own : (t : ℕ) (note : Note) → held_for t (Some (t, note)) ≡ note ∷ []
 held_own t note = ap (λ b. cond b (note ∷ []) []) (eq-eqb t t refl)
 
-held_other : (t task : ℕ) (note : Note) → t ≢ task → held_for t (Some (task, note)) ≡ []
+pub held_other : (t task : ℕ) (note : Note) → t ≢ task → held_for t (Some (task, note)) ≡ []
 held_other t task note apart = ap (λ b. cond b (note ∷ []) []) (ne_eqb t task apart)
 
 pub on_err : {A E : Type 0} {X : Type 0} (r : Result A E) → X → OnErr r X

@@ -70,8 +70,13 @@ impl<J: Named, const INBOX: usize> Posts<J, INBOX> {
         }
     }
 
+    /// What they take their memory from.
+    pub fn allocator(&self) -> Global {
+        self.alloc
+    }
+
     /// Puts the next note that waits, if there is one. `entries` is the journal, oldest first, and at least all of it is shown.
-    /// Where memory runs out nothing was put.
+    /// Where memory runs out nothing was put, and none is held.
     pub fn put<R: Wait>(
         &mut self,
         rt: &R,
@@ -85,7 +90,7 @@ impl<J: Named, const INBOX: usize> Posts<J, INBOX> {
         ensures nothing { result ≡ Ok Posted.Nothing → IsAllPut entries.now self.new × (self.new.putters ≡ self.old.putters) }
         ensures put { (t : ℕ) → (kind : Kind) → result ≡ Ok (Posted.Put t kind) → (note : Note) × (kind_of note ≡ kind) × PutsOne t note self.old.putters self.new.putters }
         ensures full { (t : ℕ) → result ≡ Ok (Posted.Full t) → (p : Putting) × WasFull J.board INBOX p × FindsFull t p self.old.putters self.new.putters }
-        ensures err { OnErr result (self.new.putters ≡ self.old.putters) }
+        ensures err { OnErr result ((self.new.putters ≡ self.old.putters) × (self.new.next ≡ None)) }
     {
         match self.next.take() {
             Some((task, made)) => Ok(self.hand_over(rt, task, made)),
@@ -108,7 +113,7 @@ impl<J: Named, const INBOX: usize> Posts<J, INBOX> {
         ensures nothing { result ≡ Ok Posted.Nothing → IsAllPut entries.now self.new × (self.new.putters ≡ self.old.putters) }
         ensures put { (t : ℕ) → (kind : Kind) → result ≡ Ok (Posted.Put t kind) → (note : Note) × (kind_of note ≡ kind) × PutsOne t note self.old.putters self.new.putters }
         ensures full { (t : ℕ) → result ≡ Ok (Posted.Full t) → (p : Putting) × WasFull J.board INBOX p × FindsFull t p self.old.putters self.new.putters }
-        ensures err { OnErr result (self.new.putters ≡ self.old.putters) }
+        ensures err { OnErr result ((self.new.putters ≡ self.old.putters) × (self.new.next ≡ None)) }
     {
         match self.make_next(entries, shown)? {
             Some((task, made)) => Ok(self.hand_over(rt, task, made)),
