@@ -1,1 +1,5 @@
+pub mod Flags
+pub mod Owing
+pub mod Once
 pub mod Turning
+pub mod Without

@@ -1,5 +1,5 @@
 -- What a turn leaves.
-use Rattle.std.proofs.Common.{◌≡◌, ℕ, zero, suc, ◌+◌, ◌<◌, Bool, false, List, [], ◌∷◌, ◌++◌, length, reverse, map, refl, sym, ap, ◌∙◌, subst, inl, inr}
+use Rattle.std.proofs.Common.{◌≡◌, ℕ, zero, suc, ◌+◌, ◌<◌, Bool, false, List, [], ◌∷◌, ◌++◌, ◌⊎◌, length, reverse, map, refl, sym, ap, ◌∙◌, subst, inl, inr}
 use Rattle.std.specs.Prelude.{Option, Some, Result, Ok, Err, IfOk, slice_get, slice_set}
 use Rattle.std.specs.List.{AllByRecursion}
 use Rattle.std.proofs.lemmas.List.{reverse-append, reverse-reverse, length-reverse}
@@ -15,10 +15,11 @@ use Rattle.agent_table.specs.Sizes.{Sizes}
 use Rattle.agent_table.proofs.Closed.{granted_are_few}
 use Rattle.agent_line.specs.Told.{Told}
 use Rattle.agent_line.specs.Times.{Timed, KeepsTimes}
-use Rattle.agent_posts.specs.Mail.{IsPosted, AreFew, PutsOne, FindsFull}
+use Rattle.agent_posts.specs.Mail.{Mail, IsPosted, AreFew, PutsOne, FindsFull}
 use Rattle.agent_posts.proofs.Growing.{growth_is_posted}
-use Rattle.agent_requests.specs.Intake.{Taking, IsSameEnd, IsServed, WasIdle, Works}
+use Rattle.agent_requests.specs.Intake.{Taking, IsSameEnd, TakesOneAtMost, IsServed, WasIdle, Works}
 use Rattle.agent_end.specs.Serving.{Serving, IsServing, journal_in}
+use Rattle.agent_end.specs.Short.{Tells, TakesOne, FindsNone, WorksWithout}
 use Rattle.agent_end.specs.Turns.{Appends, AreSameEnds, StaysTimed, Answers}
 use Rattle.agent_end.specs.declared.turn.Turn.{Turn}
 use Rattle.agent_end.specs.declared.turn.Turn.TheVariants as t
@@ -54,11 +55,11 @@ grown : (more past new : List Entry) → new ≡ more ++ past → reverse new �
 grown more past new e = ap reverse e ∙ reverse-append more past
 
 -- behind a step
-pub serving_on : (at : ℕ) (old : Serving) (taking : Taking) (short : Bool) → IsServing old → Works at old.taking taking → (short ≡ false → IsServed taking) → IsServing (record { taking = taking; mail = old.mail; short = short })
-serving_on at old taking short h works served =
+pub serving_on : (at : ℕ) (old : Serving) (taking : Taking) (short : Bool) → old.short ≡ false → IsServing old → Works at old.taking taking → (short ≡ false → IsServed taking) → IsServing (record { taking = taking; mail = old.mail; short = short })
+serving_on at old taking short memory h works served =
     record {
       served = served;
-      posted = subst (λ entries. IsPosted entries old.mail) (sym (grown works.more old.taking.recorded.past taking.recorded.past works.past)) (growth_is_posted (journal_in old) (reverse works.more) old.mail h.posted);
+      posted = λ _. subst (λ entries. IsPosted entries old.mail) (sym (grown works.more old.taking.recorded.past taking.recorded.past works.past)) (growth_is_posted (journal_in old) (reverse works.more) old.mail (h.posted memory));
       tasks = h.tasks ∙ ap (λ (s : Setup). s.tasks) (sym works.setup);
     }
 
@@ -98,3 +99,67 @@ module _ (board : TableId) (inbox : ℕ) (old mid new : Serving) (before now : T
   pub answers_behind : {E : Type 0} (r : Result Turn E) → IfOk r (λ a. Answers board inbox mid before new now a) → IfOk r (λ a. Answers board inbox old before new now a)
   answers_behind (Ok a) h = answer_behind a h
   answers_behind (Err e) h = tt
+
+-- ---- A turn without memory
+
+same_taking : (old new : Serving) → new.taking ≡ old.taking → Appends old new
+same_taking old new e =
+    record {
+      setup = ap (λ (x : Taking). x.recorded.setup) e;
+      sizes = ap (λ (x : Taking). x.recorded.sizes) e;
+      more = [];
+      past = ap (λ (x : Taking). x.recorded.past) e;
+      taken = inl (ap (λ (x : Taking). x.receiver.taken) e);
+    }
+
+same_journal_taken : (old new : Serving) → new.taking ≡ record old.taking { receiver = new.taking.receiver } → TakesOneAtMost old.taking.receiver new.taking.receiver → Appends old new
+same_journal_taken old new e taken =
+    record {
+      setup = ap (λ (x : Taking). x.recorded.setup) e;
+      sizes = ap (λ (x : Taking). x.recorded.sizes) e;
+      more = [];
+      past = ap (λ (x : Taking). x.recorded.past) e;
+      taken = taken;
+    }
+
+same_ends : (old new : Serving) → new.taking ≡ old.taking → IsSameEnd old.taking.receiver new.taking.receiver
+same_ends old new e = subst (λ (x : Taking). IsSameEnd old.taking.receiver x.receiver) (sym e) (same_receiver old.taking.receiver)
+
+module _ (board : TableId) (inbox : ℕ) (old new : Serving) where
+  appends_by : Tells old new ⊎ (TakesOne old new ⊎ FindsNone board old new) → Appends old new
+  appends_by (inl tells) = same_taking old new tells.taking
+  appends_by (inr (inl takes)) = same_journal_taken old new takes.taking (inr (takes.pops.0, ap (λ (r : Receiving). r.taken) takes.pops.3))
+  appends_by (inr (inr finds)) = same_journal_taken old new finds.taking (inl (ap (λ (r : Receiving). r.taken) finds.empty.counted))
+
+  appends_answer : (a : Turn) → WorksWithout {E = Unit {0}} board inbox old new (Ok a) → Appends old new
+  appends_answer t.Worked h = absurd h
+  appends_answer t.Idle h = absurd h
+  appends_answer (t.Stalled task) h = same_taking old new h.taking
+  appends_answer t.Ended h = same_taking old new (ap (λ (a : Serving). a.taking) h.same)
+
+  pub appends_without : {E : Type 0} (r : Result Turn E) → WorksWithout board inbox old new r → Appends old new
+  appends_without (Ok a) h = appends_answer a h
+  appends_without (Err e) h = appends_by h
+
+  ends_by : Tells old new ⊎ (TakesOne old new ⊎ FindsNone board old new) → IsSameEnd old.taking.receiver new.taking.receiver × AreSameEnds old.mail.putters new.mail.putters
+  ends_by (inl tells) = (same_ends old new tells.taking, same_put tells.task tells.note old.mail.putters new.mail.putters tells.puts)
+  ends_by (inr (inl takes)) =
+      let e = takes.pops.3 in (
+        record { queue = ap (λ (r : Receiving). r.queue) e; senders = ap (λ (r : Receiving). r.senders) e; joined = ap (λ (r : Receiving). r.joined) e },
+        ap (λ (m : Mail). map (λ (p : Putting). p.mailbox) m.putters) takes.mail,
+      )
+  ends_by (inr (inr finds)) =
+      let e = finds.empty.counted in (
+        record { queue = ap (λ (r : Receiving). r.queue) e; senders = ap (λ (r : Receiving). r.senders) e; joined = ap (λ (r : Receiving). r.joined) e },
+        ap (λ (m : Mail). map (λ (p : Putting). p.mailbox) m.putters) finds.mail,
+      )
+
+  ends_answer : (a : Turn) → WorksWithout {E = Unit {0}} board inbox old new (Ok a) → IsSameEnd old.taking.receiver new.taking.receiver × AreSameEnds old.mail.putters new.mail.putters
+  ends_answer t.Worked h = absurd h
+  ends_answer t.Idle h = absurd h
+  ends_answer (t.Stalled task) h = (same_ends old new h.taking, same_full task h.pass old.mail.putters new.mail.putters h.counted)
+  ends_answer t.Ended h = (same_ends old new (ap (λ (a : Serving). a.taking) h.same), ap (λ (a : Serving). map (λ (p : Putting). p.mailbox) a.mail.putters) h.same)
+
+  pub ends_without : {E : Type 0} (r : Result Turn E) → WorksWithout board inbox old new r → IsSameEnd old.taking.receiver new.taking.receiver × AreSameEnds old.mail.putters new.mail.putters
+  ends_without (Ok a) h = ends_answer a h
+  ends_without (Err e) h = ends_by h

@@ -1,2 +1,4 @@
 pub mod Serving
+pub mod Owed
 pub mod Turns
+pub mod Short

@@ -14,9 +14,9 @@ pub record Serving : Type 0 where
 abbrev pub journal_in : Serving → List Entry
 journal_in a = reverse a.taking.recorded.past
 
--- What holds between two calls. Until memory ran out, what was taken from the queue are the journal's Takes, in their order. What was
--- put for each task, then the note that is held for it, then what waits for it, is all that the journal tells it.
+-- What holds between two calls. Until memory ran out, what was taken from the queue are the journal's Takes, in their order; and what
+-- was put for each task, then the note that is held for it, then what waits for it, is all that the journal tells it.
 pub record IsServing (a : Serving) : Type 0 where
   pub served : a.short ≡ false → IsServed a.taking
-  pub posted : IsPosted (journal_in a) a.mail
+  pub posted : a.short ≡ false → IsPosted (journal_in a) a.mail
   pub tasks : length a.mail.putters ≡ a.taking.recorded.setup.tasks

@@ -3,15 +3,18 @@
 ghost use Rattle.std.specs.Prelude.{◌≡◌, ◌≤◌, [], reverse, false, length};
 ghost use Rattle.agent_table.specs.Histories.{IsLegalPast};
 ghost use Rattle.agent_end.specs.Serving.{Serving, IsServing, journal_in};
+ghost use Rattle.agent_end.specs.Owed.{NoneIsToldTwice};
 
+use crate::owed::Owed;
 use agent_journal::Entry;
 use agent_posts::{Posts, Shown};
 use agent_requests::Intake;
 use front_board::Named;
 use std::marker::Model;
 
-/// The agent of many tasks. Between two calls its journal is legal; what it took from the queue are the journal's Takes, until memory
-/// ran out; and each task's mailbox was put a front of what the journal tells that task.
+/// The agent of many tasks. Between two calls its journal is legal. Until memory ran out, what it took from the queue are the
+/// journal's Takes, and each task's mailbox was put a front of what the journal tells that task. From then on it works by the mailboxes
+/// alone.
 #[derive(Drop)]
 pub struct AgentEnd<
     J: Named,
@@ -27,6 +30,7 @@ pub struct AgentEnd<
     pub(crate) shown: Shown<J>,
     /// Whether memory ran out in a turn.
     pub(crate) short: bool,
+    pub(crate) owed: Owed,
 }
 
 impl<
@@ -39,12 +43,14 @@ impl<
 > Model for AgentEnd<J, QUEUE, INBOX, ACKS, IN, ROUTES> {
     ghost use Rattle.std.specs.Prelude.{◌≡◌, length};
     ghost use Rattle.agent_end.specs.Serving.{Serving, IsServing};
+    ghost use Rattle.agent_end.specs.Owed.{Owes, held_in};
 
     ghost Value = { Serving };
 
     ghost view = { λ a. record { taking = a.intake; mail = a.posts; short = a.short } };
 
-    ghost invariant = { λ a. IsServing (record { taking = a.intake; mail = a.posts; short = a.short }) × (a.shown ≡ length a.intake.recorded.past) };
+    ghost invariant = { λ a. IsServing (record { taking = a.intake; mail = a.posts; short = a.short }) × (a.shown ≡ length a.intake.recorded.past)
+        × Owes a.owed.commands.items a.owed.closed a.owed.left a.intake.receiver a.posts.putters (held_in (record { taking = a.intake; mail = a.posts; short = a.short })) };
 }
 
 impl<
@@ -55,7 +61,7 @@ impl<
     const IN: usize,
     const ROUTES: usize,
 > AgentEnd<J, QUEUE, INBOX, ACKS, IN, ROUTES> {
-    /// An agent before its first turn, with a mailbox for each of its tasks, by number.
+    /// An agent before its first entry, with a mailbox for each of its tasks, at most eight, by number.
     pub fn new(
         intake: Intake<J, QUEUE, ACKS, IN, ROUTES>,
         posts: Posts<J, INBOX>,
@@ -63,21 +69,27 @@ impl<
     ) -> Self
         requires serving { IsServing (record { taking = intake; mail = posts; short = false }) }
         requires shown { shown ≡ length intake.recorded.past }
+        requires fresh { intake.recorded.past ≡ [] }
+        requires few { intake.recorded.setup.tasks ≤ 8 }
         ensures { result ≡ record { taking = intake; mail = posts; short = false } }
     {
+        let owed = Owed::new(posts.allocator());
         AgentEnd {
             intake,
             posts,
             shown,
             short: false,
+            owed,
         }
     }
 
-    /// The journal so far, oldest entry first. It is legal at any moment, also where memory ran out.
+    /// The journal so far, oldest entry first. It is legal at any moment, also where memory ran out; and at any moment no command was
+    /// told twice.
     pub fn journal(&self) -> &[Entry]
         ensures journal { result.now ≡ journal_in self.now }
         ensures legal { IsLegalPast self.now.taking.recorded.setup self.now.taking.recorded.sizes self.now.taking.recorded.past }
         ensures serving { IsServing self.now }
+        ensures once { NoneIsToldTwice self.now }
     {
         self.intake.recorder().entries()
     }

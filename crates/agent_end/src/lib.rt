@@ -2,6 +2,8 @@
 #![tactic(auto)]
 
 mod end;
+mod owed;
+mod short;
 mod step;
 mod turn;
 

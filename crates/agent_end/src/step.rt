@@ -10,7 +10,7 @@ use crate::end::AgentEnd;
 use crate::turn::Turn;
 use agent_line::{Telling, read};
 use agent_link::{Clock, Link};
-use agent_requests::Served;
+use agent_requests::{Served, Short};
 use front_board::Named;
 use mqtt_packet::NoMemory;
 use std::alloc::AllocError;
@@ -41,14 +41,22 @@ impl<
         ensures timed { StaysTimed self.old (C.readings clock.old) self.new (C.readings clock.new) }
         ensures answers { IfOk result (λ answer. Answers J.board INBOX self.old (⟦<L as Telling>⟧.told link.old) self.new (⟦<L as Telling>⟧.told link.new) answer) }
     {
+        let Ok(()) = self.owed.reserve() else {
+            self.short = true;
+            return Err(AllocError);
+        };
         let now = read(self.intake.recorder(), clock);
         let served = self.intake.serve(rt, link, &mut self.shown, now);
         self.shown.raise(self.intake.recorder().len() as u64);
         match served {
-            Ok(Served::Worked) => Ok(Turn::Worked),
+            Ok(Served::Worked(popped)) => {
+                self.owed.take(popped);
+                Ok(Turn::Worked)
+            }
             Ok(Served::Idle) => Ok(Turn::Idle),
             Ok(Served::Ended) => Ok(Turn::Ended),
-            Err(_) => {
+            Err(Short { popped }) => {
+                self.owed.take(popped);
                 self.short = true;
                 Err(AllocError)
             }

@@ -1,16 +1,14 @@
 -- A journal that grows, and what it tells in all.
-use Rattle.std.proofs.Common.{◌≡◌, ℕ, zero, suc, ◌+◌, ◌-◌, ◌<◌, ◌≤◌, List, [], ◌∷◌, ◌++◌, length, map, drop, reverse, Some, None, refl, sym, ap, ◌∙◌, subst, arith, append_assoc, append-nil, length-append}
-use Rattle.std.specs.Prelude.{slice_get}
+use Rattle.std.proofs.Common.{◌≡◌, ℕ, suc, ◌+◌, ◌≤◌, List, [], ◌∷◌, ◌++◌, length, map, drop, reverse, refl, sym, ap, ◌∙◌, subst, arith, append_assoc, append-nil, length-append}
 use Rattle.std.specs.List.{flat_map}
 use Rattle.std.proofs.lemmas.List.{map-append, drop-append-le, length-drop, reverse-append}
 use Rattle.agent_journal.specs.declared.entry.Entry.{Entry}
 use Rattle.agent_journal.specs.Notes.{Note, told_by, noted, notes_by, notes_of}
 use Rattle.task_queues.specs.declared.note.Note.{Note as TaskNote}
-use Rattle.task_queues.specs.MailboxPasses.{Putting}
 use Rattle.agent_posts.specs.declared.place.Place.{Place}
 use Rattle.agent_posts.specs.Laws.{PostedAreNotes, GrowthIsPosted, NothingIsPosted}
 use Rattle.agent_posts.specs.Waiting.{Placed, placed, told_in, told_from, waiting, IsPlaceIn}
-use Rattle.agent_posts.specs.Mail.{Mail, said, AreTold, held_for, IsMadeTo, IsPosted}
+use Rattle.agent_posts.specs.Mail.{said, AreTold, held_for}
 use Rattle.agent_posts.proofs.Waiting.{from_start}
 
 -- ---- Entries more

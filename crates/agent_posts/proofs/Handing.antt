@@ -1,29 +1,27 @@
 -- Notes are made and put, and what was told stays in order.
-use Rattle.std.proofs.Common.{◌≡◌, ◌≢◌, ℕ, zero, suc, ◌+◌, ◌<◌, ◌≤◌, Bool, true, false, cond, List, [], ◌∷◌, ◌++◌, length, map, drop, Option, Some, None, refl, sym, ap, ◌∙◌, subst, arith, eq-eqb, ne_eqb, append_assoc, append-nil, ◌⊎◌, inl, inr}
-use Rattle.std.specs.Prelude.{slice_get, slice_set, get_or, ◌==◌, Result, Ok, Err, OnErr}
-use Rattle.std.proofs.lemmas.List.{length-set, drop_all}
+use Rattle.std.proofs.Common.{◌≡◌, ◌≢◌, ℕ, zero, suc, ◌+◌, ◌<◌, cond, List, [], ◌∷◌, ◌++◌, length, Option, Some, None, refl, sym, ap, ◌∙◌, subst, arith, eq-eqb, ne_eqb, append_assoc, append-nil, ◌⊎◌, inl, inr}
+use Rattle.std.specs.Prelude.{slice_get, slice_set, get_or, Result, Ok, Err, OnErr}
 use Rattle.std.proofs.lemmas.Option.{slice_get_within, slice_get-get_or}
-use Rattle.agent_journal.specs.declared.effect.Effect.{Effect}
 use Rattle.agent_journal.specs.declared.entry.Entry.{Entry}
 use Rattle.agent_journal.specs.Notes.{noted}
 use Rattle.task_queues.specs.declared.note.Note.{Note}
 use Rattle.task_queues.specs.MailboxPasses.{Putting}
 use Rattle.agent_posts.specs.declared.place.Place.{Place}
-use Rattle.agent_posts.specs.Waiting.{Placed, told, told_in, waiting, IsPlaceIn, IsTold, WaitsAlike, NoneWaits, behind}
-use Rattle.agent_posts.specs.Mail.{Mail, said, Tells, IsMadeAt, AreTold, held_for, IsMadeTo, IsPosted, IsAllPut, PutsOne, FindsFull}
-use Rattle.agent_posts.proofs.Waiting.{waits_other, waits_own, is_known, place_within, none_at_end}
+use Rattle.agent_posts.specs.Waiting.{Placed, told, waiting, IsPlaceIn, IsTold, WaitsAlike, NoneWaits, behind}
+use Rattle.agent_posts.specs.Mail.{said, Tells, IsMadeAt, AreTold, held_for, IsMadeTo, IsPosted, PutsOne, FindsFull}
+use Rattle.agent_posts.proofs.Waiting.{waits_other, waits_own, place_within, none_at_end}
 
 -- ---- Lists
 
-same_some : {X : Type 0} (x y : X) → Some x ≡ Some y → x ≡ y
+pub same_some : {X : Type 0} (x y : X) → Some x ≡ Some y → x ≡ y
 same_some x y e = cc e
 
-get_set_same : {X : Type 0} (xs : List X) (i : ℕ) (x y : X) → slice_get xs i ≡ Some y → slice_get (slice_set xs i x) i ≡ Some x
+pub get_set_same : {X : Type 0} (xs : List X) (i : ℕ) (x y : X) → slice_get xs i ≡ Some y → slice_get (slice_set xs i x) i ≡ Some x
 get_set_same [] i x y there = absurd (cc there)
 get_set_same (a ∷ xs) zero x y there = refl
 get_set_same (a ∷ xs) (suc i) x y there = get_set_same xs i x y there
 
-get_set_other : {X : Type 0} (xs : List X) (i j : ℕ) (x : X) → j ≢ i → slice_get (slice_set xs i x) j ≡ slice_get xs j
+pub get_set_other : {X : Type 0} (xs : List X) (i j : ℕ) (x : X) → j ≢ i → slice_get (slice_set xs i x) j ≡ slice_get xs j
 get_set_other [] i j x apart = refl
 get_set_other (a ∷ xs) zero zero x apart = absurd (apart refl)
 get_set_other (a ∷ xs) zero (suc j) x apart = refl
@@ -36,7 +34,7 @@ told_more [] (other ∷ notes) more note h k = absurd h
 told_more (f ∷ from) [] more note h k = absurd h
 told_more (f ∷ from) (other ∷ notes) more note h k = (h.0, told_more from notes more note h.1 k)
 
-is_same : (a b : ℕ) → (a ≡ b) ⊎ (a ≢ b)
+pub is_same : (a b : ℕ) → (a ≡ b) ⊎ (a ≢ b)
 is_same zero zero = inl refl
 is_same zero (suc b) = inr (λ e. absurd (omega (arith, e)))
 is_same (suc a) zero = inr (λ e. absurd (omega (arith, e)))
@@ -45,10 +43,10 @@ is_same (suc a) (suc b) = elim (is_same a b) [
   | inr apart ↦ inr (λ e. apart (omega (arith, e)))
 ]
 
-held_own : (t : ℕ) (note : Note) → held_for t (Some (t, note)) ≡ note ∷ []
+pub held_own : (t : ℕ) (note : Note) → held_for t (Some (t, note)) ≡ note ∷ []
 held_own t note = ap (λ b. cond b (note ∷ []) []) (eq-eqb t t refl)
 
-held_other : (t task : ℕ) (note : Note) → t ≢ task → held_for t (Some (task, note)) ≡ []
+pub held_other : (t task : ℕ) (note : Note) → t ≢ task → held_for t (Some (task, note)) ≡ []
 held_other t task note apart = ap (λ b. cond b (note ∷ []) []) (ne_eqb t task apart)
 
 pub on_err : {A E : Type 0} {X : Type 0} (r : Result A E) → X → OnErr r X

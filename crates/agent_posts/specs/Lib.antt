@@ -1,3 +1,4 @@
 pub mod Waiting
+pub mod Kinds
 pub mod Mail
 pub mod Laws

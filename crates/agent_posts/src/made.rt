@@ -4,9 +4,11 @@ ghost use Rattle.std.specs.Prelude.{◌≡◌, ℕ, ◌≤◌, [], ◌∷◌, So
 ghost use Rattle.agent_journal.specs.Notes.{noted};
 ghost use Rattle.agent_table.specs.Closings.{HasFewCodes};
 ghost use Rattle.task_queues.specs.Fronts.{front_in, codes_in, IsSoundNote};
+ghost use Rattle.agent_posts.specs.Kinds as kinds;
 ghost use Rattle.agent_posts.specs.Waiting.{told, IsTold};
 ghost use Rattle.agent_posts.specs.Mail.{said, IsMadeAt, AreFew};
 
+use crate::kind::{Kind, kind_of};
 use crate::place::Place;
 use crate::shown::Shown;
 use agent_journal::{Effect, Entry};
@@ -45,6 +47,13 @@ impl<J: Named> Made<J> {
             note,
             of: PhantomData,
         }
+    }
+
+    /// What it tells of.
+    pub fn kind(&self) -> Kind
+        ensures { result ≡ kinds.kind_of self.now }
+    {
+        kind_of(&self.note)
     }
 
     /// The note.

@@ -4,9 +4,12 @@ ghost use Rattle.std.specs.Prelude.{◌≡◌, ℕ, List, ◌≤◌, ◌<◌, No
 ghost use Rattle.agent_journal.specs.declared.entry.Entry.{Entry};
 ghost use Rattle.task_queues.specs.declared.note.Note.{Note};
 ghost use Rattle.task_queues.specs.MailboxPasses.{Putting, WasFull};
+ghost use Rattle.agent_posts.specs.declared.kind.Kind.{Kind};
+ghost use Rattle.agent_posts.specs.Kinds.{kind_of};
 ghost use Rattle.agent_posts.specs.Waiting.{NoneWaits};
 ghost use Rattle.agent_posts.specs.Mail.{IsPosted, IsAllPut, PutsOne, FindsFull, AreFew};
 
+use crate::kind::Kind;
 use crate::made::{Made, make};
 use crate::place::{Place, next_told};
 use crate::post::Post;
@@ -23,8 +26,8 @@ use std::sync::Wait;
 pub enum Posted {
     /// No note waits.
     Nothing,
-    /// A note was put.
-    Put,
+    /// A note of this kind was put for this task.
+    Put(u32, Kind),
     /// The mailbox of this task is full.
     Full(u32),
 }
@@ -37,7 +40,7 @@ pub struct Posts<J: Named, const INBOX: usize> {
     posts: Vec<Post<J, INBOX>>,
     place: Place,
     /// A note that was made, and its task, while its mailbox is full.
-    next: Option<(u32, Made<J>)>,
+    pub(crate) next: Option<(u32, Made<J>)>,
 }
 
 impl<J: Named, const INBOX: usize> Model for Posts<J, INBOX> {
@@ -75,8 +78,13 @@ impl<J: Named, const INBOX: usize> Posts<J, INBOX> {
         posts
     }
 
+    /// What they take their memory from.
+    pub fn allocator(&self) -> Global {
+        self.alloc
+    }
+
     /// Puts the next note that waits, if there is one. `entries` is the journal, oldest first, and at least all of it is shown.
-    /// Where memory runs out nothing was put.
+    /// Where memory runs out nothing was put, and none is held.
     pub fn put<R: Wait>(
         &mut self,
         rt: &R,
@@ -88,9 +96,9 @@ impl<J: Named, const INBOX: usize> Posts<J, INBOX> {
         ensures posted { IsPosted entries.now self.old → IsPosted entries.now self.new }
         ensures shown { shown.new ≡ shown.old }
         ensures nothing { result ≡ Ok Posted.Nothing → IsAllPut entries.now self.new × (self.new.putters ≡ self.old.putters) }
-        ensures put { result ≡ Ok Posted.Put → (t : ℕ) × (note : Note) × PutsOne t note self.old.putters self.new.putters }
+        ensures put { (t : ℕ) → (kind : Kind) → result ≡ Ok (Posted.Put t kind) → (note : Note) × (kind_of note ≡ kind) × PutsOne t note self.old.putters self.new.putters }
         ensures full { (t : ℕ) → result ≡ Ok (Posted.Full t) → (p : Putting) × WasFull J.board INBOX p × FindsFull t p self.old.putters self.new.putters }
-        ensures err { OnErr result (self.new.putters ≡ self.old.putters) }
+        ensures err { OnErr result ((self.new.putters ≡ self.old.putters) × (self.new.next ≡ None)) }
     {
         match self.next.take() {
             Some((task, made)) => Ok(self.hand_over(rt, task, made)),
@@ -111,9 +119,9 @@ impl<J: Named, const INBOX: usize> Posts<J, INBOX> {
         ensures posted { IsPosted entries.now self.old → IsPosted entries.now self.new }
         ensures shown { shown.new ≡ shown.old }
         ensures nothing { result ≡ Ok Posted.Nothing → IsAllPut entries.now self.new × (self.new.putters ≡ self.old.putters) }
-        ensures put { result ≡ Ok Posted.Put → (t : ℕ) × (note : Note) × PutsOne t note self.old.putters self.new.putters }
+        ensures put { (t : ℕ) → (kind : Kind) → result ≡ Ok (Posted.Put t kind) → (note : Note) × (kind_of note ≡ kind) × PutsOne t note self.old.putters self.new.putters }
         ensures full { (t : ℕ) → result ≡ Ok (Posted.Full t) → (p : Putting) × WasFull J.board INBOX p × FindsFull t p self.old.putters self.new.putters }
-        ensures err { OnErr result (self.new.putters ≡ self.old.putters) }
+        ensures err { OnErr result ((self.new.putters ≡ self.old.putters) × (self.new.next ≡ None)) }
     {
         match self.make_next(entries, shown)? {
             Some((task, made)) => Ok(self.hand_over(rt, task, made)),
@@ -155,16 +163,19 @@ impl<J: Named, const INBOX: usize> Posts<J, INBOX> {
     }
 
     /// Puts a note that was made, or holds it.
-    fn hand_over<R: Wait>(&mut self, rt: &R, task: u32, made: Made<J>) -> Posted
+    pub(crate) fn hand_over<R: Wait>(&mut self, rt: &R, task: u32, made: Made<J>) -> Posted
         requires known { task < length self.old.putters }
         requires none { self.old.next ≡ None }
         ensures posted { (entries : List Entry) → IsPosted entries (record self.old { next = Some (task, made) }) → IsPosted entries self.new }
-        ensures put { result ≡ Posted.Put → PutsOne task made self.old.putters self.new.putters }
+        ensures put { (t : ℕ) → (kind : Kind) → result ≡ Posted.Put t kind → (t ≡ task) × (kind_of made ≡ kind) × PutsOne task made self.old.putters self.new.putters × (self.new.next ≡ None) }
         ensures full { (t : ℕ) → result ≡ Posted.Full t → (p : Putting) × WasFull J.board INBOX p × FindsFull t p self.old.putters self.new.putters }
+        ensures held { (t : ℕ) → result ≡ Posted.Full t → (t ≡ task) × (self.new.next ≡ Some (task, made)) }
+        ensures place { self.new.place ≡ self.old.place }
         ensures some { result ≢ Posted.Nothing }
     {
+        let kind = made.kind();
         match self.posts[task as usize].put(rt, made) {
-            Ok(()) => Posted::Put,
+            Ok(()) => Posted::Put(task, kind),
             Err(back) => {
                 self.next.insert((task, back));
                 Posted::Full(task)

@@ -104,11 +104,11 @@ longer_opened true at old new opens fails = longer_entered at c.Opened old new (
 longer_opened false at old new opens fails = longer_made at (c.Broke why.Fault) old new (fails refl)
 
 -- a request was taken, or there was none
-pub works_took : (took : Bool) (at : ℕ) (board : TableId) (old new : Taking)
-    → (took ≡ true → (s : Submission) × Enters at (take_of s) old.recorded new.recorded × (new.receiver ≡ record old.receiver { taken = old.receiver.taken ++ s ∷ [] }))
-    → (took ≡ false → WasEmpty board old.receiver × (new ≡ record old { receiver = record old.receiver { empties = old.receiver.empties + 1 } })) → Works at old new
-works_took true at board old new taken none = let t = taken refl in works_taken at old new t.0 t.1 t.2
-works_took false at board old new taken none =
+pub works_took : (took : Option Popped) (at : ℕ) (board : TableId) (old new : Taking)
+    → ((p : Popped) → took ≡ Some p → (s : Submission) × Enters at (take_of s) old.recorded new.recorded × (new.receiver ≡ record old.receiver { taken = old.receiver.taken ++ s ∷ [] }))
+    → (took ≡ None → WasEmpty board old.receiver × (new ≡ record old { receiver = record old.receiver { empties = old.receiver.empties + 1 } })) → Works at old new
+works_took (Some p) at board old new taken none = let t = taken p refl in works_taken at old new t.0 t.1 t.2
+works_took None at board old new taken none =
     let n = none refl in
     works_empty at board old new (record { empty = n.0; counted = ap (λ (t : Taking). t.receiver) n.1 }) (ap (λ (t : Taking). t.recorded) n.1)
 

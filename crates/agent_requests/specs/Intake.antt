@@ -55,6 +55,14 @@ pub record IsSameEnd (old new : Receiving) : Type 0 where
 abbrev pub TakesOneAtMost : Receiving → Receiving → Type 0
 TakesOneAtMost old new = (new.taken ≡ old.taken) ⊎ ((one : Submission) × (new.taken ≡ old.taken ++ one ∷ []))
 
+abbrev pub popped_of : Submission → Popped
+popped_of one = record { task = task_of one; seq = seq_of one; leaves = is_leave (request_of one) }
+
+-- This request was taken from the queue, of one of its senders; or none was.
+abbrev pub Pops : Option Popped → Receiving → Receiving → Type 0
+Pops None old new = new.taken ≡ old.taken
+Pops (Some p) old new = (one : Submission) × (p ≡ popped_of one) × (task_of one < old.senders) × (new ≡ record old { taken = old.taken ++ one ∷ [] })
+
 -- Entries of this time were added: what a step does, also one that finds no memory.
 pub record Works (at : ℕ) (old new : Taking) : Type 0 where
   pub setup : new.recorded.setup ≡ old.recorded.setup
@@ -96,13 +104,11 @@ pub record HasEnded (at : ℕ) (old : Taking) (before : Told) (new : Taking) (no
 
 -- ---- Where memory ran out
 
-abbrev pub popped_of : Submission → Popped
-popped_of one = record { task = task_of one; seq = seq_of one; leaves = is_leave (request_of one) }
-
 -- A submission was taken from the queue, and its entry may be missing.
 pub record LosesTake (at : ℕ) (old new : Taking) (p : Popped) : Type 0 where
   pub submission : Submission
   pub is : p ≡ popped_of submission
+  pub sender : task_of submission < old.receiver.senders
   pub taken : new.receiver ≡ record old.receiver { taken = old.receiver.taken ++ submission ∷ [] }
   pub made : MayMake old.recorded at (take_of submission) new.recorded
 
@@ -116,7 +122,13 @@ FallsShort at old new e = AddsBefore at old new e.popped
 
 -- ---- What a step that found memory did, by its answer
 
+-- the request that it took
+abbrev pub popped_by : Served → Option Popped
+popped_by (s.Worked popped) = popped
+popped_by s.Idle = None
+popped_by s.Ended = None
+
 abbrev pub Answers : TableId → ℕ → Taking → Told → Taking → Told → Served → Type 0
-Answers board at old before new now s.Worked = WasBusy old before new now
+Answers board at old before new now (s.Worked popped) = WasBusy old before new now
 Answers board at old before new now s.Idle = WasIdle board at old before new now
 Answers board at old before new now s.Ended = HasEnded at old before new now

@@ -20,8 +20,8 @@ pub struct Short {
 /// What an agent did.
 #[derive(Clone, Copy, Debug, PartialEq, Eq)]
 pub enum Served {
-    /// An entry was made, or bytes came.
-    Worked,
+    /// An entry was made, or bytes came; and this request was taken, if one was.
+    Worked(Option<Popped>),
     /// There was nothing to do.
     Idle,
     /// Nothing will be done any more: the session has ended, and each task has left.

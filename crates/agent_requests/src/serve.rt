@@ -6,9 +6,10 @@ ghost use Rattle.agent_journal.specs.Readings.{last_time_of, has_left};
 ghost use Rattle.agent_table.specs.Ties.{listens};
 ghost use Rattle.agent_link.specs.Counts.{raised};
 ghost use Rattle.agent_line.specs.Recorded.{phase_in, due_in, Grows};
-ghost use Rattle.agent_requests.specs.Intake.{StaysTied, IsServed, takes_now, WasBusy, FoundEmpty, Works, Answers, FallsShort};
+ghost use Rattle.agent_requests.specs.declared.answers.Popped.{Popped};
+ghost use Rattle.agent_requests.specs.Intake.{StaysTied, IsServed, takes_now, Pops, popped_by, WasBusy, FoundEmpty, Works, Answers, FallsShort};
 
-use crate::answers::{Served, Short};
+use crate::answers::{Popped, Served, Short};
 use crate::intake::Intake;
 use agent_journal::Phase;
 use agent_line::{Came, Telling};
@@ -40,12 +41,13 @@ impl<J: Named, const QUEUE: usize, const ACKS: usize, const IN: usize, const ROU
         ensures tied { OnOk result (StaysTied self.old (⟦<L as Telling>⟧.told link.old) self.new (⟦<L as Telling>⟧.told link.new)) }
         ensures served { OnOk result (IsServed self.new) }
         ensures works { Works now self.old self.new }
+        ensures popped { IfOk result (λ answer. Pops (popped_by answer) self.old.receiver self.new.receiver) }
         ensures answers { IfOk result (λ answer. Answers J.board now self.old (⟦<L as Telling>⟧.told link.old) self.new (⟦<L as Telling>⟧.told link.new) answer) }
         ensures short { IfErr result (FallsShort now self.old self.new) }
         ensures shown { shown.new ≡ shown.old }
     {
         match self.do_due(link, now) {
-            Ok(true) => return Ok(Served::Worked),
+            Ok(true) => return Ok(Served::Worked(None)),
             Ok(false) => {}
             Err(_) => return Err(Short { popped: None }),
         }
@@ -67,11 +69,12 @@ impl<J: Named, const QUEUE: usize, const ACKS: usize, const IN: usize, const ROU
         ensures tied { OnOk result (StaysTied self.old (⟦<L as Telling>⟧.told link.old) self.new (⟦<L as Telling>⟧.told link.new)) }
         ensures served { IsServed self.old → IsServed self.new }
         ensures works { Works now self.old self.new }
+        ensures popped { IfOk result (λ answer. Pops (popped_by answer) self.old.receiver self.new.receiver) }
         ensures answers { IfOk result (λ answer. Answers J.board now self.old (⟦<L as Telling>⟧.told link.old) self.new (⟦<L as Telling>⟧.told link.new) answer) }
         ensures short { IfErr result (FallsShort now self.old self.new) }
     {
         match self.open(link, now) {
-            Ok(_) => Ok(Served::Worked),
+            Ok(_) => Ok(Served::Worked(None)),
             Err(_) => Err(Short { popped: None }),
         }
     }
@@ -84,11 +87,12 @@ impl<J: Named, const QUEUE: usize, const ACKS: usize, const IN: usize, const ROU
         ensures tied { OnOk result (StaysTied self.old (⟦<L as Telling>⟧.told link.old) self.new (⟦<L as Telling>⟧.told link.new)) }
         ensures served { IsServed self.old → IsServed self.new }
         ensures works { Works now self.old self.new }
+        ensures popped { IfOk result (λ answer. Pops (popped_by answer) self.old.receiver self.new.receiver) }
         ensures answers { IfOk result (λ answer. Answers J.board now self.old (⟦<L as Telling>⟧.told link.old) self.new (⟦<L as Telling>⟧.told link.new) answer) }
         ensures short { IfErr result (FallsShort now self.old self.new) }
     {
         if self.listen(link, now)? {
-            Ok(Served::Worked)
+            Ok(Served::Worked(None))
         } else {
             Ok(Served::Idle)
         }
@@ -110,18 +114,18 @@ impl<J: Named, const QUEUE: usize, const ACKS: usize, const IN: usize, const ROU
         ensures tied { OnOk result (StaysTied self.old (⟦<L as Telling>⟧.told link.old) self.new (⟦<L as Telling>⟧.told link.new)) }
         ensures served { OnOk result (IsServed self.new) }
         ensures works { Works now self.old self.new }
+        ensures popped { IfOk result (λ answer. Pops (popped_by answer) self.old.receiver self.new.receiver) }
         ensures answers { IfOk result (λ answer. Answers J.board now self.old (⟦<L as Telling>⟧.told link.old) self.new (⟦<L as Telling>⟧.told link.new) answer) }
         ensures short { IfErr result (FallsShort now self.old self.new) }
         ensures shown { shown.new ≡ shown.old }
     {
         if self.listen(link, now)? {
-            self.take_behind(rt, link, shown, now)?;
-            return Ok(Served::Worked);
+            let popped = self.take_behind(rt, link, shown, now)?;
+            return Ok(Served::Worked(popped));
         }
-        if self.accept(rt, link, shown, now)? {
-            Ok(Served::Worked)
-        } else {
-            Ok(Served::Idle)
+        match self.accept(rt, link, shown, now)? {
+            Some(popped) => Ok(Served::Worked(Some(popped))),
+            None => Ok(Served::Idle),
         }
     }
 
@@ -132,22 +136,22 @@ impl<J: Named, const QUEUE: usize, const ACKS: usize, const IN: usize, const ROU
         link: &mut L,
         shown: &mut Shown<J>,
         now: u64,
-    ) -> Result<(), Short>
+    ) -> Result<Option<Popped>, Short>
         requires served { IsServed self.old }
         requires time { last_time_of self.old.recorded.past ≤ now }
         requires raised { shown.old ≤ length self.old.recorded.past }
         ensures tied { OnOk result (StaysTied self.old (⟦<L as Telling>⟧.told link.old) self.new (⟦<L as Telling>⟧.told link.new)) }
         ensures served { OnOk result (IsServed self.new) }
         ensures works { Works now self.old self.new }
+        ensures popped { IfOk result (λ popped. Pops popped self.old.receiver self.new.receiver) }
         ensures longer { OnOk result ((length self.old.recorded.past < length self.new.recorded.past) ⊎ (⟦<L as Telling>⟧.told link.new ≡ ⟦<L as Telling>⟧.told link.old)) }
         ensures short { IfErr result (FallsShort now self.old self.new) }
         ensures shown { shown.new ≡ shown.old }
     {
         if !is_taking(self.recorder().phase()) {
-            return Ok(());
+            return Ok(None);
         }
-        self.accept(rt, link, shown, now)?;
-        Ok(())
+        self.accept(rt, link, shown, now)
     }
 
     /// In Off: a request, until each task has left.
@@ -166,6 +170,7 @@ impl<J: Named, const QUEUE: usize, const ACKS: usize, const IN: usize, const ROU
         ensures tied { OnOk result (StaysTied self.old (⟦<L as Telling>⟧.told link.old) self.new (⟦<L as Telling>⟧.told link.new)) }
         ensures served { OnOk result (IsServed self.new) }
         ensures works { Works now self.old self.new }
+        ensures popped { IfOk result (λ answer. Pops (popped_by answer) self.old.receiver self.new.receiver) }
         ensures answers { IfOk result (λ answer. Answers J.board now self.old (⟦<L as Telling>⟧.told link.old) self.new (⟦<L as Telling>⟧.told link.new) answer) }
         ensures short { IfErr result (FallsShort now self.old self.new) }
         ensures shown { shown.new ≡ shown.old }
@@ -173,10 +178,9 @@ impl<J: Named, const QUEUE: usize, const ACKS: usize, const IN: usize, const ROU
         if self.have_left() {
             return Ok(Served::Ended);
         }
-        if self.accept(rt, link, shown, now)? {
-            Ok(Served::Worked)
-        } else {
-            Ok(Served::Idle)
+        match self.accept(rt, link, shown, now)? {
+            Some(popped) => Ok(Served::Worked(Some(popped))),
+            None => Ok(Served::Idle),
         }
     }
 
@@ -207,7 +211,7 @@ impl<J: Named, const QUEUE: usize, const ACKS: usize, const IN: usize, const ROU
         link: &mut L,
         shown: &mut Shown<J>,
         now: u64,
-    ) -> Result<bool, Short>
+    ) -> Result<Option<Popped>, Short>
         requires served { IsServed self.old }
         requires time { last_time_of self.old.recorded.past ≤ now }
         requires phase { takes_now (phase_in self.old.recorded) ≡ true }
@@ -215,13 +219,14 @@ impl<J: Named, const QUEUE: usize, const ACKS: usize, const IN: usize, const ROU
         ensures tied { OnOk result (StaysTied self.old (⟦<L as Telling>⟧.told link.old) self.new (⟦<L as Telling>⟧.told link.new)) }
         ensures served { OnOk result (IsServed self.new) }
         ensures works { Works now self.old self.new }
-        ensures taken { result ≡ Ok true → length self.old.recorded.past < length self.new.recorded.past }
-        ensures none { result ≡ Ok false → FoundEmpty J.board self.old.receiver self.new.receiver × (self.new.recorded ≡ self.old.recorded) × (⟦<L as Telling>⟧.told link.new ≡ ⟦<L as Telling>⟧.told link.old) }
+        ensures popped { IfOk result (λ popped. Pops popped self.old.receiver self.new.receiver) }
+        ensures taken { (p : Popped) → result ≡ Ok (Some p) → length self.old.recorded.past < length self.new.recorded.past }
+        ensures none { result ≡ Ok None → FoundEmpty J.board self.old.receiver self.new.receiver × (self.new.recorded ≡ self.old.recorded) × (⟦<L as Telling>⟧.told link.new ≡ ⟦<L as Telling>⟧.told link.old) }
         ensures short { IfErr result (FallsShort now self.old self.new) }
         ensures shown { shown.new ≡ shown.old }
     {
         match self.take(rt, link, shown, now) {
-            Ok(took) => Ok(took),
+            Ok(popped) => Ok(popped),
             Err(popped) => Err(Short {
                 popped: Some(popped),
             }),

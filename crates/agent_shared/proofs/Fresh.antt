@@ -88,6 +88,6 @@ put_fresh (m ∷ mailboxes) (suc t) p e = put_fresh mailboxes t p e
 pub fresh_serves : (setup : Setup) (sizes : Sizes) (queue : TableId) (mailboxes : List TableId) → length mailboxes ≡ setup.tasks → IsServing (fresh_agent setup sizes queue mailboxes)
 fresh_serves setup sizes queue mailboxes counted = record {
   served = λ e. record { takes = tt; tasks = refl };
-  posted = nothing_is_posted (map fresh_putter mailboxes) (put_fresh mailboxes);
+  posted = λ e. nothing_is_posted (map fresh_putter mailboxes) (put_fresh mailboxes);
   tasks = length-map mailboxes fresh_putter ∙ counted;
 }

@@ -163,7 +163,7 @@ are_gathered a serving legal short ended ends tasks are drained joined all =
     let past = a.taking.recorded.past in
     let taken = a.taking.receiver.taken in
     let takes = (serving.served short).takes in
-    let gives = gathers a.taking.recorded.setup a.taking.recorded.sizes past (reverse past) (reverse-reverse past) legal taken takes a.mail serving.posted ended.put a.taking.receiver.queue ends tasks are drained (all_taken taken ends joined all) in
+    let gives = gathers a.taking.recorded.setup a.taking.recorded.sizes past (reverse past) (reverse-reverse past) legal taken takes a.mail (serving.posted short) ended.put a.taking.receiver.queue ends tasks are drained (all_taken taken ends joined all) in
     record {
       gathered = record { takes = takes; told = gives.0 };
       became = gives.1;

@@ -4,7 +4,7 @@ ghost use Rattle.std.specs.Prelude.{◌≡◌, ◌≤◌, [], ◌∷◌, IfOk, l
 ghost use Rattle.agent_posts.specs.Mail.{AreFew};
 
 use agent_journal::{Cause, Effect, Entry, Message, Outcome};
-use agent_posts::{Post, Posted, Posts, Shown};
+use agent_posts::{Kind, Post, Posted, Posts, Shown};
 use front_board::{FrontBoard, Named, Owner};
 use list_types::{Seq, Text};
 use mqtt_packet::Qos;
@@ -104,10 +104,10 @@ fn are_told<J: Named, R: Wait>(
     requires few { AreFew entries.now }
     requires raised { length entries.now ≤ shown.old }
 {
-    let first = put(rt, posts, entries, shown)? == Posted::Put;
+    let first = put(rt, posts, entries, shown)? == Posted::Put(0, Kind::Done(0));
     let full = put(rt, posts, entries, shown)? == Posted::Full(0);
     let completed = is_completion(get(rt, mailbox, getter));
-    let second = put(rt, posts, entries, shown)? == Posted::Put;
+    let second = put(rt, posts, entries, shown)? == Posted::Put(0, Kind::Message);
     let none = put(rt, posts, entries, shown)? == Posted::Nothing;
     let told = is_message(get(rt, mailbox, getter));
     Ok(first && full && completed && second && none && told)

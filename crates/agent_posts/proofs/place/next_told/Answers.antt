@@ -1,6 +1,5 @@
-use Rattle.std.proofs.Common.{◌≡◌, ℕ, Some, None, rules, sym, subst}
+use Rattle.std.proofs.Common.{◌≡◌, Some, rules, subst}
 use Rattle.std.specs.Prelude.{slice_get}
-use Rattle.agent_posts.specs.declared.place.Place.{Place}
 use Rattle.agent_posts.specs.Waiting.{IsNextIn, NoneIn}
 use Rattle.agent_posts.proofs.Waiting.{got_here, waits_on, waits_within}
 use Rattle.agent_posts.proofs.place.next_told.Goals as goal

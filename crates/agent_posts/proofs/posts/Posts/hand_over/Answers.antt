@@ -1,12 +1,18 @@
-use Rattle.std.proofs.Common.{◌≡◌, ap, ◌∙◌, subst, slice_set}
+use Rattle.std.proofs.Common.{◌≡◌, sym, ap, ◌∙◌, subst, slice_set}
 use Rattle.agent_posts.specs.Mail.{Mail, FindsFull}
 use Rattle.agent_posts.proofs.Handing.{puts_one, finds_full, put_then, held_then}
 use Rattle.agent_posts.proofs.posts.Posts.hand_over.Goals as goal
 
 pub returns-in-Ok-clause-put : goal.returns-in-Ok-clause-put
-returns-in-Ok-clause-put g c e =
+returns-in-Ok-clause-put g c t kind e =
     let same = ap (λ (m : Mail). m.putters) c.self.view_is in
-    puts_one c.args.self.now.putters c.self.inside.posts.items c.args.task c.index_mut.result.now c.put.new.self same c.requires.known c.index_mut.ensures.value c.args.made c.in-Ok.ensures.put
+    let told : c.kind-kind.result ≡ kind = cc e in
+    let task : t ≡ c.args.task = cc e in (
+      task,
+      sym c.kind-kind.ensures ∙ told,
+      puts_one c.args.self.now.putters c.self.inside.posts.items c.args.task c.index_mut.result.now c.put.new.self same c.requires.known c.index_mut.ensures.value c.args.made c.in-Ok.ensures.put,
+      ap (λ (m : Mail). m.next) c.self.view_is ∙ c.requires.none,
+    )
 
 pub returns-in-Ok-clause-posted : goal.returns-in-Ok-clause-posted
 returns-in-Ok-clause-posted g c entries h =
