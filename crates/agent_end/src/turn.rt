@@ -25,7 +25,7 @@ pub enum Turn {
     Idle,
     /// The mailbox of this task is full: nothing is done before it takes a note.
     Stalled(u32),
-    /// The session has ended, each task has left, and all notes are put.
+    /// Each task has left, and all notes are put; the session has ended, or memory ran out.
     Ended,
 }
 
