@@ -75,19 +75,20 @@ pub record IsHeldUp (board : TableId) (inbox task : ℕ) (old new : Serving) : T
 abbrev pub failing : ℕ → Popped → Option (ℕ × Note)
 failing at p = if p.leaves then None else Some (p.task, kinds.failed p.seq at)
 
--- All was put, and a submission was taken from the queue.
-pub record TakesOne (old new : Serving) : Type 0 where
-  pub told : AreAllTold old
-  pub popped : Popped
-  pub pops : Pops (Some popped) old.taking.receiver new.taking.receiver
-  pub taking : new.taking ≡ record old.taking { receiver = new.taking.receiver }
-  pub mail : new.mail ≡ record old.mail { next = failing (time_of old) popped }
-
 -- a task that hasn't left
 pub record IsAwaited (a : Serving) : Type 0 where
   pub task : ℕ
   pub known : task < length a.mail.putters
   pub stays : left_in task a.taking.receiver.taken ≡ false
+
+-- All was put, a task hasn't left, and a submission was taken from the queue.
+pub record TakesOne (old new : Serving) : Type 0 where
+  pub told : AreAllTold old
+  pub awaited : IsAwaited old
+  pub popped : Popped
+  pub pops : Pops (Some popped) old.taking.receiver new.taking.receiver
+  pub taking : new.taking ≡ record old.taking { receiver = new.taking.receiver }
+  pub mail : new.mail ≡ record old.mail { next = failing (time_of old) popped }
 
 -- All was put, a task hasn't left, and the queue was empty at a step.
 pub record FindsNone (board : TableId) (old new : Serving) : Type 0 where

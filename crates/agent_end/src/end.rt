@@ -30,6 +30,7 @@ pub struct AgentEnd<
     pub(crate) shown: Shown<J>,
     /// Whether memory ran out in a turn.
     pub(crate) short: bool,
+    /// What each task is owed, which is needed once memory ran out.
     pub(crate) owed: Owed,
 }
 

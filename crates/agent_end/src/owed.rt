@@ -11,7 +11,6 @@ use agent_requests::Popped;
 use mqtt_packet::NoMemory;
 use std::alloc::Global;
 
-
 /// What the agent must know to go on without memory.
 #[derive(Drop)]
 pub(crate) struct Owed {

@@ -64,10 +64,7 @@ impl<
         ensures works { WorksWithout J.board INBOX self.old self.new result }
         ensures short { self.new.short ≡ true }
     {
-        if self
-            .owed
-            .have_left(self.intake.recorder().setup().tasks)
-        {
+        if self.owed.have_left(self.intake.recorder().setup().tasks) {
             return Ok(Turn::Ended);
         }
         let Some(popped) = self.intake.pop(rt) else {

@@ -25,7 +25,7 @@ pub enum Turn {
     Idle,
     /// The mailbox of this task is full: nothing is done before it takes a note.
     Stalled(u32),
-    /// The session has ended, each task has left, and all notes are put.
+    /// Each task has left, and all notes are put; the session has ended, or memory ran out.
     Ended,
 }
 
@@ -58,6 +58,7 @@ impl<
         ensures tied { self.new.short ≡ false → StaysTied self.old.taking (⟦<L as Telling>⟧.told link.old) self.new.taking (⟦<L as Telling>⟧.told link.new) }
         ensures timed { self.new.short ≡ false → StaysTimed self.old (C.readings clock.old) self.new (C.readings clock.new) }
         ensures without { self.old.short ≡ true → WorksWithout J.board INBOX self.old self.new result }
+        ensures alone { self.old.short ≡ true → (⟦<L as Telling>⟧.told link.new ≡ ⟦<L as Telling>⟧.told link.old) × (C.readings clock.new ≡ C.readings clock.old) }
         ensures runs_out { self.old.short ≡ false → OnErr result ((self.new.mail.putters ≡ self.old.mail.putters) × (self.new.mail.next ≡ None)) }
         ensures answers { self.new.short ≡ false → IfOk result (λ answer. Answers J.board INBOX self.old (⟦<L as Telling>⟧.told link.old) self.new (⟦<L as Telling>⟧.told link.new) answer) }
     {

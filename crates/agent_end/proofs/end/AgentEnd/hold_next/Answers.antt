@@ -29,7 +29,7 @@ invariant_of-self g c =
       spent (record { taking = c.self.inside.intake; mail = c.hold_failure.new.self; short = c.self.inside.short }) short (ap (λ (x : Mail). length x.putters) c.hold_failure.ensures.held ∙ c.self.invariant.0.tasks),
       c.self.invariant.1,
       owes_now c.pop.new.self.items c.self.inside.owed.closed c.self.inside.owed.left c.self.inside.intake.receiver m c.hold_failure.new.self c.self.inside.short short c.hold_failure.ensures.held
-      (owes_failed c.self.inside.owed.commands.items c.pop.new.self.items c.self.inside.owed.closed c.self.inside.owed.left c.self.inside.intake.receiver c.self.inside.posts.putters c.in-Some.command c.in-Some.ensures.items h c.last_time-at.result),
+          (owes_failed c.self.inside.owed.commands.items c.pop.new.self.items c.self.inside.owed.closed c.self.inside.owed.left c.self.inside.intake.receiver c.self.inside.posts.putters c.in-Some.command c.in-Some.ensures.items h c.last_time-at.result),
     )
 
 pub returns-in-Some-clause-next : goal.returns-in-Some-clause-next
@@ -55,8 +55,8 @@ invariant_of-self-in-Some-unclosed g c =
       spent (record { taking = c.self.inside.intake; mail = c.hold_closed.new.self; short = c.self.inside.short }) short (ap (λ (x : Mail). length x.putters) c.hold_closed.ensures.held ∙ c.self.invariant.0.tasks),
       c.self.invariant.1,
       owes_now c.pop.new.self.items c.self.inside.owed.closed c.self.inside.owed.left c.self.inside.intake.receiver m c.hold_closed.new.self c.self.inside.short short c.hold_closed.ensures.held
-      (owes_closed c.pop.new.self.items c.self.inside.owed.closed c.self.inside.owed.left c.self.inside.intake.receiver c.self.inside.posts.putters
-      (subst (λ commands. Owes commands c.self.inside.owed.closed c.self.inside.owed.left c.self.inside.intake.receiver c.self.inside.posts.putters None) same h) c.in-Some-unclosed.task c.last_time-at.result),
+          (owes_closed c.pop.new.self.items c.self.inside.owed.closed c.self.inside.owed.left c.self.inside.intake.receiver c.self.inside.posts.putters
+          (subst (λ commands. Owes commands c.self.inside.owed.closed c.self.inside.owed.left c.self.inside.intake.receiver c.self.inside.posts.putters None) same h) c.in-Some-unclosed.task c.last_time-at.result),
     )
 
 pub returns-in-Some-unclosed-clause-next : goal.returns-in-Some-unclosed-clause-next

@@ -10,7 +10,7 @@ invariant_of-result g c =
       c.requires.serving,
       c.requires.shown,
       owes_same [] c.new-owed.result.commands.items (replicate 8 false) (replicate 8 false) c.new-owed.result.closed c.new-owed.result.left c.args.intake.receiver c.args.posts.putters None
-      c.new-owed.ensures.commands c.new-owed.ensures.closed c.new-owed.ensures.left
-      (owes_none c.args.intake.receiver c.args.posts.putters (served.tasks ∙ sym tasks) (subst (λ n. n ≤ 8) (sym tasks) c.requires.few)
-      (untaken c.args.intake.recorded.past c.args.intake.receiver.taken c.requires.fresh served.takes) (unput c.args.intake.recorded.past c.args.posts c.requires.fresh (c.requires.serving.posted refl))),
+          c.new-owed.ensures.commands c.new-owed.ensures.closed c.new-owed.ensures.left
+          (owes_none c.args.intake.receiver c.args.posts.putters (served.tasks ∙ sym tasks) (subst (λ n. n ≤ 8) (sym tasks) c.requires.few)
+          (untaken c.args.intake.recorded.past c.args.intake.receiver.taken c.requires.fresh served.takes) (unput c.args.intake.recorded.past c.args.posts c.requires.fresh (c.requires.serving.posted refl))),
     )

@@ -22,12 +22,12 @@ invariant_of-self-in-Ok-Worked g c =
       serving_on c.read-now.result a c.serve-served.new.self c.self.inside.short memory c.self.invariant.0 c.serve-served.ensures.works (λ e. is_served),
       search rules,
       either_way c.take.new.self.commands.items c.take.new.self.closed c.take.new.self.left c.serve-served.new.self.receiver c.self.inside.posts.putters
-      (record { taking = c.serve-served.new.self; mail = c.self.inside.posts; short = c.self.inside.short }) none
-      (owes_same (commands_with c.self.inside.owed.commands.items c.in-Ok-Worked.popped) c.take.new.self.commands.items c.self.inside.owed.closed (left_with c.self.inside.owed.left c.in-Ok-Worked.popped) c.take.new.self.closed
-      c.take.new.self.left c.serve-served.new.self.receiver c.self.inside.posts.putters None (c.take.ensures.commands ∙ ap (λ cs. commands_with cs c.in-Ok-Worked.popped) c.reserve.ensures.commands)
-      (c.take.ensures.closed ∙ c.reserve.ensures.flags.0) (c.take.ensures.left ∙ ap (λ flags. left_with flags c.in-Ok-Worked.popped) c.reserve.ensures.flags.1)
-      (owes_taken c.self.inside.owed.commands.items c.self.inside.owed.closed c.self.inside.owed.left c.self.inside.intake.receiver c.serve-served.new.self.receiver c.self.inside.posts.putters None c.in-Ok-Worked.popped
-      pops c.serve-served.ensures.works.same_end.senders before)),
+          (record { taking = c.serve-served.new.self; mail = c.self.inside.posts; short = c.self.inside.short }) none
+          (owes_same (commands_with c.self.inside.owed.commands.items c.in-Ok-Worked.popped) c.take.new.self.commands.items c.self.inside.owed.closed (left_with c.self.inside.owed.left c.in-Ok-Worked.popped) c.take.new.self.closed
+          c.take.new.self.left c.serve-served.new.self.receiver c.self.inside.posts.putters None (c.take.ensures.commands ∙ ap (λ cs. commands_with cs c.in-Ok-Worked.popped) c.reserve.ensures.commands)
+          (c.take.ensures.closed ∙ c.reserve.ensures.flags.0) (c.take.ensures.left ∙ ap (λ flags. left_with flags c.in-Ok-Worked.popped) c.reserve.ensures.flags.1)
+          (owes_taken c.self.inside.owed.commands.items c.self.inside.owed.closed c.self.inside.owed.left c.self.inside.intake.receiver c.serve-served.new.self.receiver c.self.inside.posts.putters None c.in-Ok-Worked.popped
+          pops c.serve-served.ensures.works.same_end.senders before)),
     )
 
 pub invariant_of-self-in-Ok-Idle : goal.invariant_of-self-in-Ok-Idle
@@ -43,11 +43,11 @@ invariant_of-self-in-Ok-Idle g c =
       serving_on c.read-now.result a c.serve-served.new.self c.self.inside.short memory c.self.invariant.0 c.serve-served.ensures.works (λ e. is_served),
       search rules,
       either_way c.reserve.new.self.commands.items c.reserve.new.self.closed c.reserve.new.self.left c.serve-served.new.self.receiver c.self.inside.posts.putters
-      (record { taking = c.serve-served.new.self; mail = c.self.inside.posts; short = c.self.inside.short }) none
-      (owes_same c.self.inside.owed.commands.items c.reserve.new.self.commands.items c.self.inside.owed.closed c.self.inside.owed.left c.reserve.new.self.closed c.reserve.new.self.left c.serve-served.new.self.receiver
-      c.self.inside.posts.putters None c.reserve.ensures.commands c.reserve.ensures.flags.0 c.reserve.ensures.flags.1
-      (owes_taken c.self.inside.owed.commands.items c.self.inside.owed.closed c.self.inside.owed.left c.self.inside.intake.receiver c.serve-served.new.self.receiver c.self.inside.posts.putters None None pops
-      c.serve-served.ensures.works.same_end.senders before)),
+          (record { taking = c.serve-served.new.self; mail = c.self.inside.posts; short = c.self.inside.short }) none
+          (owes_same c.self.inside.owed.commands.items c.reserve.new.self.commands.items c.self.inside.owed.closed c.self.inside.owed.left c.reserve.new.self.closed c.reserve.new.self.left c.serve-served.new.self.receiver
+          c.self.inside.posts.putters None c.reserve.ensures.commands c.reserve.ensures.flags.0 c.reserve.ensures.flags.1
+          (owes_taken c.self.inside.owed.commands.items c.self.inside.owed.closed c.self.inside.owed.left c.self.inside.intake.receiver c.serve-served.new.self.receiver c.self.inside.posts.putters None None pops
+          c.serve-served.ensures.works.same_end.senders before)),
     )
 
 pub invariant_of-self-in-Err : goal.invariant_of-self-in-Err
@@ -61,12 +61,12 @@ invariant_of-self-in-Err g c =
       serving_on c.read-now.result a c.serve-served.new.self true memory c.self.invariant.0 c.serve-served.ensures.works (λ e. absurd (cc e)),
       search rules,
       either_way c.take-in-Err.new.self.commands.items c.take-in-Err.new.self.closed c.take-in-Err.new.self.left c.serve-served.new.self.receiver c.self.inside.posts.putters
-      (record { taking = c.serve-served.new.self; mail = c.self.inside.posts; short = true }) none
-      (owes_same (commands_with c.self.inside.owed.commands.items c.in-Err.field-0.popped) c.take-in-Err.new.self.commands.items c.self.inside.owed.closed (left_with c.self.inside.owed.left c.in-Err.field-0.popped) c.take-in-Err.new.self.closed
-      c.take-in-Err.new.self.left c.serve-served.new.self.receiver c.self.inside.posts.putters None (c.take-in-Err.ensures.commands ∙ ap (λ cs. commands_with cs c.in-Err.field-0.popped) c.reserve.ensures.commands)
-      (c.take-in-Err.ensures.closed ∙ c.reserve.ensures.flags.0) (c.take-in-Err.ensures.left ∙ ap (λ flags. left_with flags c.in-Err.field-0.popped) c.reserve.ensures.flags.1)
-      (owes_taken c.self.inside.owed.commands.items c.self.inside.owed.closed c.self.inside.owed.left c.self.inside.intake.receiver c.serve-served.new.self.receiver c.self.inside.posts.putters None c.in-Err.field-0.popped
-      pops c.serve-served.ensures.works.same_end.senders before)),
+          (record { taking = c.serve-served.new.self; mail = c.self.inside.posts; short = true }) none
+          (owes_same (commands_with c.self.inside.owed.commands.items c.in-Err.field-0.popped) c.take-in-Err.new.self.commands.items c.self.inside.owed.closed (left_with c.self.inside.owed.left c.in-Err.field-0.popped) c.take-in-Err.new.self.closed
+          c.take-in-Err.new.self.left c.serve-served.new.self.receiver c.self.inside.posts.putters None (c.take-in-Err.ensures.commands ∙ ap (λ cs. commands_with cs c.in-Err.field-0.popped) c.reserve.ensures.commands)
+          (c.take-in-Err.ensures.closed ∙ c.reserve.ensures.flags.0) (c.take-in-Err.ensures.left ∙ ap (λ flags. left_with flags c.in-Err.field-0.popped) c.reserve.ensures.flags.1)
+          (owes_taken c.self.inside.owed.commands.items c.self.inside.owed.closed c.self.inside.owed.left c.self.inside.intake.receiver c.serve-served.new.self.receiver c.self.inside.posts.putters None c.in-Err.field-0.popped
+          pops c.serve-served.ensures.works.same_end.senders before)),
     )
 
 pub returns-in-Ok-Worked-clause-serving : goal.returns-in-Ok-Worked-clause-serving

@@ -19,7 +19,7 @@ invariant_of-self g c =
       spent (record { taking = c.pop.new.self; mail = c.self.inside.posts; short = c.self.inside.short }) short (c.self.invariant.0.tasks ∙ ap (λ (r : Recorded). r.setup.tasks) (sym same)),
       c.self.invariant.1 ∙ ap (λ (r : Recorded). length r.past) (sym same),
       owes_taken c.self.inside.owed.commands.items c.self.inside.owed.closed c.self.inside.owed.left c.self.inside.intake.receiver c.pop.new.self.receiver c.self.inside.posts.putters (held_in a) None
-      c.in_default.ensures.popped senders c.self.invariant.2,
+          c.in_default.ensures.popped senders c.self.invariant.2,
     )
 
 pub invariant_of-self-then-popped : goal.invariant_of-self-then-popped
@@ -30,7 +30,7 @@ invariant_of-self-then-popped g c =
       spent (record { taking = c.pop.new.self; mail = c.self.inside.posts; short = c.self.inside.short }) short (c.self.invariant.0.tasks ∙ ap (λ (r : Recorded). r.setup.tasks) (sym same)),
       c.self.invariant.1 ∙ ap (λ (r : Recorded). length r.past) (sym same),
       owes_leave c.self.inside.owed.commands.items c.leave.new.self.commands.items c.self.inside.owed.closed c.self.inside.owed.left c.leave.new.self.closed c.leave.new.self.left c.self.inside.intake.receiver c.pop.new.self.receiver
-      c.self.inside.posts.putters (held_in a) c.in-Some.popped c.in-Some.ensures.popped c.if-popped.true c.leave.ensures.left c.leave.ensures.same.0 c.leave.ensures.same.1 c.self.invariant.2,
+          c.self.inside.posts.putters (held_in a) c.in-Some.popped c.in-Some.ensures.popped c.if-popped.true c.leave.ensures.left c.leave.ensures.same.0 c.leave.ensures.same.1 c.self.invariant.2,
     )
 
 pub invariant_of-self-2 : goal.invariant_of-self-2
@@ -42,9 +42,9 @@ invariant_of-self-2 g c =
     let same = ap (λ (x : Taking). x.recorded) c.pop.ensures.same in
     let m : Mail = record c.self.inside.posts { next = Some (c.in-Some.popped.task, failed c.in-Some.popped.seq c.last_time-at.result) } in (
       spent (record { taking = c.pop.new.self; mail = c.hold_failure.new.self; short = c.self.inside.short }) short
-      (ap (λ (x : Mail). length x.putters) c.hold_failure.ensures.held ∙ c.self.invariant.0.tasks ∙ ap (λ (r : Recorded). r.setup.tasks) (sym same)),
+          (ap (λ (x : Mail). length x.putters) c.hold_failure.ensures.held ∙ c.self.invariant.0.tasks ∙ ap (λ (r : Recorded). r.setup.tasks) (sym same)),
       c.self.invariant.1 ∙ ap (λ (r : Recorded). length r.past) (sym same),
       owes_now c.self.inside.owed.commands.items c.self.inside.owed.closed c.self.inside.owed.left c.pop.new.self.receiver m c.hold_failure.new.self c.self.inside.short short c.hold_failure.ensures.held
-      (owes_failing c.self.inside.owed.commands.items c.self.inside.owed.closed c.self.inside.owed.left c.self.inside.intake.receiver c.self.inside.posts.putters h c.pop.new.self.receiver c.in-Some.popped c.last_time-at.result
-      c.in-Some.ensures.popped c.if-popped.false),
+          (owes_failing c.self.inside.owed.commands.items c.self.inside.owed.closed c.self.inside.owed.left c.self.inside.intake.receiver c.self.inside.posts.putters h c.pop.new.self.receiver c.in-Some.popped c.last_time-at.result
+          c.in-Some.ensures.popped c.if-popped.false),
     )

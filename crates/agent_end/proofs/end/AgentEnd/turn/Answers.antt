@@ -65,8 +65,8 @@ invariant_of-self-in-Ok-Put g c =
       record { served = c.self.invariant.0.served; posted = λ _. posted; tasks = as_many c.in-Ok-Put.task one.0 c.self.inside.posts.putters c.put.new.self.putters one.2 ∙ c.self.invariant.0.tasks },
       c.put.ensures.shown ∙ c.self.invariant.1,
       held_with c.note.new.self.commands.items c.note.new.self.closed c.note.new.self.left now memory
-      (owes_same c.note.new.self.commands.items c.note.new.self.commands.items (closed_with c.self.inside.owed.closed c.in-Ok-Put.task (kind_of one.0)) c.self.inside.owed.left c.note.new.self.closed c.note.new.self.left
-      c.self.inside.intake.receiver c.put.new.self.putters None refl (c.note.ensures.closed ∙ ap (closed_with c.self.inside.owed.closed c.in-Ok-Put.task) (sym one.1)) c.note.ensures.left all),
+          (owes_same c.note.new.self.commands.items c.note.new.self.commands.items (closed_with c.self.inside.owed.closed c.in-Ok-Put.task (kind_of one.0)) c.self.inside.owed.left c.note.new.self.closed c.note.new.self.left
+          c.self.inside.intake.receiver c.put.new.self.putters None refl (c.note.ensures.closed ∙ ap (closed_with c.self.inside.owed.closed c.in-Ok-Put.task) (sym one.1)) c.note.ensures.left all),
     )
 
 pub invariant_of-self-in-Ok-Full : goal.invariant_of-self-in-Ok-Full
@@ -81,7 +81,7 @@ invariant_of-self-in-Ok-Full g c =
       record { served = c.self.invariant.0.served; posted = λ _. posted; tasks = as_many_full c.in-Ok-Full.task one.0 c.self.inside.posts.putters c.put.new.self.putters one.2 ∙ c.self.invariant.0.tasks },
       c.put.ensures.shown ∙ c.self.invariant.1,
       held_with c.self.inside.owed.commands.items c.self.inside.owed.closed c.self.inside.owed.left now memory
-      (owes_full c.self.inside.owed.commands.items c.self.inside.owed.closed c.self.inside.owed.left c.self.inside.intake.receiver c.self.inside.posts.putters c.put.new.self.putters c.in-Ok-Full.task one.0 None one.2 h),
+          (owes_full c.self.inside.owed.commands.items c.self.inside.owed.closed c.self.inside.owed.left c.self.inside.intake.receiver c.self.inside.posts.putters c.put.new.self.putters c.in-Ok-Full.task one.0 None one.2 h),
     )
 
 pub invariant_of-self-in-Err : goal.invariant_of-self-in-Err
@@ -93,7 +93,7 @@ invariant_of-self-in-Err g c =
       spent now refl (ap (λ (ps : List Putting). length ps) err.0 ∙ c.self.invariant.0.tasks),
       c.put.ensures.shown ∙ c.self.invariant.1,
       either_way c.self.inside.owed.commands.items c.self.inside.owed.closed c.self.inside.owed.left c.self.inside.intake.receiver c.put.new.self.putters now err.1
-      (subst (λ ps. Owes c.self.inside.owed.commands.items c.self.inside.owed.closed c.self.inside.owed.left c.self.inside.intake.receiver ps None) (sym err.0) h),
+          (subst (λ ps. Owes c.self.inside.owed.commands.items c.self.inside.owed.closed c.self.inside.owed.left c.self.inside.intake.receiver ps None) (sym err.0) h),
     )
 
 pub returns-in-Ok-Nothing-clause-answers : goal.returns-in-Ok-Nothing-clause-answers

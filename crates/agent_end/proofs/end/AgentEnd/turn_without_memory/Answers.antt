@@ -18,8 +18,8 @@ invariant_of-self g c =
       spent now short (as_many c.in-Put.task put.0 c.self.inside.posts.putters c.put_held.new.self.putters put.3 ∙ c.self.invariant.0.tasks),
       c.self.invariant.1,
       either_way c.close.new.self.commands.items c.close.new.self.closed c.close.new.self.left c.self.inside.intake.receiver c.put_held.new.self.putters now put.4
-      (owes_same c.self.inside.owed.commands.items c.close.new.self.commands.items (closed_with c.self.inside.owed.closed c.in-Put.task (kind_of put.0)) c.self.inside.owed.left c.close.new.self.closed c.close.new.self.left
-      c.self.inside.intake.receiver c.put_held.new.self.putters None c.close.ensures.same.0 (c.close.ensures.closed ∙ ap (closed_with c.self.inside.owed.closed c.in-Put.task) (sym put.2)) c.close.ensures.same.1 all),
+          (owes_same c.self.inside.owed.commands.items c.close.new.self.commands.items (closed_with c.self.inside.owed.closed c.in-Put.task (kind_of put.0)) c.self.inside.owed.left c.close.new.self.closed c.close.new.self.left
+          c.self.inside.intake.receiver c.put_held.new.self.putters None c.close.ensures.same.0 (c.close.ensures.closed ∙ ap (closed_with c.self.inside.owed.closed c.in-Put.task) (sym put.2)) c.close.ensures.same.1 all),
     )
 
 pub invariant_of-self-in-Full : goal.invariant_of-self-in-Full
@@ -31,7 +31,7 @@ invariant_of-self-in-Full g c =
       spent now short (as_many_full c.in-Full.task full.0 c.self.inside.posts.putters c.put_held.new.self.putters full.2 ∙ c.self.invariant.0.tasks),
       c.self.invariant.1,
       owes_full c.self.inside.owed.commands.items c.self.inside.owed.closed c.self.inside.owed.left c.self.inside.intake.receiver c.self.inside.posts.putters c.put_held.new.self.putters c.in-Full.task full.0 (held_in now) full.2
-      (subst (λ next. Owes c.self.inside.owed.commands.items c.self.inside.owed.closed c.self.inside.owed.left c.self.inside.intake.receiver c.self.inside.posts.putters (cond c.self.inside.short next None)) (sym kept.2) c.self.invariant.2),
+          (subst (λ next. Owes c.self.inside.owed.commands.items c.self.inside.owed.closed c.self.inside.owed.left c.self.inside.intake.receiver c.self.inside.posts.putters (cond c.self.inside.short next None)) (sym kept.2) c.self.invariant.2),
     )
 
 pub returns-in-Put-clause-works : goal.returns-in-Put-clause-works
