@@ -1,0 +1,7 @@
+mod Coming
+mod Holding
+mod Over
+mod Onward
+mod Collecting
+mod Stepping
+mod Leaving

@@ -1,0 +1,4 @@
+pub mod Steps
+pub mod Tickets
+pub mod Working
+pub mod Worked
