@@ -64,6 +64,7 @@ module _ (old : Working) (held : Ticketed) (takes : TakesIn old.held.tasking hel
         spared = inr (refl, omega (arith, kept_on));
         is_closed = λ was. inl was;
         asked = refl;
+        gate = refl;
         last_asked = refl;
         gone = 1;
         answered = λ k e. omega (arith, clamps, e);
@@ -88,6 +89,7 @@ module _ (old : Working) (held : Ticketed) (takes : TakesIn old.held.tasking hel
     spared = inr (refl, omega (arith, kept_on));
     is_closed = λ was. inl was;
     asked = refl;
+    gate = refl;
     last_asked = refl;
     gone = 0;
     answered = λ k e. omega (arith, clamps, e);
@@ -115,6 +117,7 @@ messaged old held spare closed more looks out got kept sent pool same few told =
       told;
   is_closed = λ is. ⊎_elim (λ e. inl (sym e ∙ is)) (λ has. inr has.1) told;
   asked = refl;
+  gate = refl;
   last_asked = refl;
   gone = 0;
   answered = λ k e. omega (arith, clamps, e);

@@ -27,10 +27,10 @@ task_on a b c f g = record {
 }
 
 pub stays : (w : Working) → GoesOn w w
-stays w = record { keeps = λ all at. at; task = same_task (side_of w) }
+stays w = record { keeps = λ all at. at; task = same_task (side_of w); gate = refl }
 
 pub on : (a b c : Working) → GoesOn a b → GoesOn b c → GoesOn a c
-on a b c f g = record { keeps = λ all at. g.keeps all (f.keeps all at); task = task_on (side_of a) (side_of b) (side_of c) f.task g.task }
+on a b c f g = record { keeps = λ all at. g.keeps all (f.keeps all at); task = task_on (side_of a) (side_of b) (side_of c) f.task g.task; gate = g.gate ∙ f.gate }
 
 -- ---- Notes are taken in
 
@@ -48,6 +48,7 @@ pub record TurnsTo (old new : Working) : Type 0 where
       ⊎ ((new.closed ≡ old.closed) × (new.spare + length new.held.tasking.kept ≤ old.spare + length old.held.tasking.kept + length (messages_in more)))
   pub is_closed : new.closed ≡ true → (old.closed ≡ true) ⊎ (has_closed (got_by new) ≡ true)
   pub asked : new.passage.asked ≡ old.passage.asked
+  pub gate : new.passage.task ≡ old.passage.task
   pub last_asked : new.passage.last_asked ≡ old.passage.last_asked
   pub gone : ℕ
   pub answered : (k : ℕ) → old.passage.answered ≡ count_to k → new.passage.answered ≡ count_to (k + gone)
@@ -98,7 +99,7 @@ module _ (old new : Working) (t : TurnsTo old new) (all : List Step) (at : IsAtW
   }
 
 pub turns : (old new : Working) → TurnsTo old new → IsSameTask (side_of old) (side_of new) → GoesOn old new
-turns old new t task = record { keeps = λ all at. turns_on old new t all at; task = task }
+turns old new t task = record { keeps = λ all at. turns_on old new t all at; task = task; gate = t.gate }
 
 -- ---- Before the first step
 

@@ -36,6 +36,13 @@ module _ (old : Working) (s : Step) (rest : List Step) (was : old.current ≡ No
   abbrev there : Working
   there = record old { current = Some s; others = rest; passage = at_step s (length (side_of old).sender.sent) old.passage }
 
+  own_gate : (s : Step) → (at_step s (length (side_of old).sender.sent) old.passage).task ≡ old.passage.task
+  own_gate (steps.Do request) = refl
+  own_gate (steps.Shadow op name payload) = refl
+  own_gate (steps.Jobs op job payload) = refl
+  own_gate steps.Wait = refl
+  own_gate (steps.Listen n) = refl
+
   module _ (all : List Step) (at : IsAtWork all old) where
     asked_then : old.passage.asked ≡ count_to (length (asked_of at.done))
     asked_then = at.asked ∙ ap (λ c. count_to (length (asked_of at.done) + length (at_gate c))) was ∙ ap count_to (none (length (asked_of at.done)))
@@ -84,7 +91,7 @@ module _ (old : Working) (s : Step) (rest : List Step) (was : old.current ≡ No
     }
 
   pub comes_to : (passage : Passed) → passage ≡ at_step s (length (side_of old).sender.sent) old.passage → GoesOn old (record old { current = Some s; others = rest; passage = passage })
-  comes_to passage e = subst (λ p. GoesOn old (record old { current = Some s; others = rest; passage = p })) (sym e) (record { keeps = comes_on; task = same_task (side_of old) })
+  comes_to passage e = subst (λ p. GoesOn old (record old { current = Some s; others = rest; passage = p })) (sym e) (record { keeps = comes_on; task = same_task (side_of old); gate = own_gate s })
 
 -- ---- A refusal
 
@@ -104,6 +111,7 @@ refused_at old request held was getter kept task sent fronts tickets = turns old
   spared = inr (refl, omega (arith, ap length kept));
   is_closed = λ is. inl is;
   asked = refl;
+  gate = refl;
   last_asked = refl;
   gone = 0;
   answered = λ k e. omega (arith, clamps, e);
@@ -131,6 +139,7 @@ module _ (old : Working) where
       spent = λ is. absurd cc;
     };
     task = same_task (side_of old);
+    gate = refl;
   }
 
   pub ends_spent : 4000000000 ≤ length (side_of old).sender.sent → GoesOn old (record old { ending = endings.Spent })
@@ -153,6 +162,7 @@ module _ (old : Working) where
       spent = λ is. omega (arith, many, sent_count all old at);
     };
     task = same_task (side_of old);
+    gate = refl;
   }
 
 -- ---- A step that the task goes past
@@ -203,7 +213,7 @@ module _ (old : Working) (s : Step) (spare : ℕ) (was : old.current ≡ Some s)
     }
 
   pub passes : GoesOn old past
-  passes = record { keeps = goes_past; task = same_task (side_of old) }
+  passes = record { keeps = goes_past; task = same_task (side_of old); gate = refl }
 
 -- ---- A request that was submitted
 
@@ -288,7 +298,7 @@ module _ (board : TableId) (old : Working) (request : Request) (held : Ticketed)
     }
 
   pub submits : GoesOn old (record old { held = held; current = None })
-  submits = record { keeps = submits_on; task = task }
+  submits = record { keeps = submits_on; task = task; gate = refl }
 
 -- ---- Each kind of step that asks nothing
 

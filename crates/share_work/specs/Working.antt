@@ -102,6 +102,7 @@ pub record IsAtWork (all : List Step) (w : Working) : Type 0 where
 pub record GoesOn (old new : Working) : Type 0 where
   pub keeps : (all : List Step) → IsAtWork all old → IsAtWork all new
   pub task : IsSameTask (side_of old) (side_of new)
+  pub gate : new.passage.task ≡ old.passage.task
 
 -- No step is left, but where the work ended before, and no ticket.
 pub record IsThrough (w : Working) : Type 0 where

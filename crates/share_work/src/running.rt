@@ -39,6 +39,7 @@ pub fn work<R: Wait, G: Gate, J: Named, const POOL: usize, const QUEUE: usize, c
     requires fresh { (end.side.sender.sent ≡ []) × (end.side.getter.got ≡ []) × (end.side.out ≡ []) × (end.side.fronts ≡ []) × (end.kept ≡ []) }
     ensures worked { HasWorked steps.items result.ending result.passage result.end }
     ensures task { IsSameTask end.side result.end }
+    ensures gate { result.passage.task ≡ task }
 {
     let mut worker = Worker::new(alloc, end, task, steps);
     let mut pause = Pause::new();

@@ -67,6 +67,7 @@ impl<J: Named, const POOL: usize, const QUEUE: usize, const INBOX: usize> Worker
         requires fresh { (end.side.sender.sent ≡ []) × (end.side.getter.got ≡ []) × (end.side.out ≡ []) × (end.side.fronts ≡ []) × (end.kept ≡ []) }
         ensures begun { IsAtWork steps.items result }
         ensures end { side_of result ≡ end.side }
+        ensures gate { result.passage.task ≡ task }
     {
         Worker {
             held: TicketedEnd::new(alloc, end),
@@ -84,6 +85,7 @@ impl<J: Named, const POOL: usize, const QUEUE: usize, const INBOX: usize> Worker
         requires through { IsThrough self }
         ensures worked { (all : List Step) → IsAtWork all self → HasWorked all result.ending result.passage result.end }
         ensures task { IsSameTask (side_of self) result.end }
+        ensures gate { result.passage ≡ self.passage }
     {
         let Worker {
             held,
