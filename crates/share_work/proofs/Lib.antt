@@ -5,3 +5,4 @@ mod Onward
 mod Collecting
 mod Stepping
 mod Leaving
+mod Parts

@@ -4,6 +4,8 @@
 
 mod ending;
 mod going;
+mod laws;
+mod parting;
 mod pause;
 mod running;
 mod ticketed;
@@ -11,5 +13,7 @@ mod tried;
 mod worker;
 
 pub use ending::{Ending, Going};
+pub use laws::{steps_are_read, steps_ask_as_lines};
+pub use parting::{Steps, parted};
 pub use running::{Worked, work};
 pub use worker::Worker;
