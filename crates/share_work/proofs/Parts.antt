@@ -57,7 +57,7 @@ value_or d None = d
 value_or d (Some x) = x
 
 module _ (parts : List (List Step)) (line : Line) (was now : List Step) (within : line.task < length parts) (is : was ≡ get_or parts line.task was)
-  (one : now ≡ was ++ line.step ∷ []) (tasks : ℕ) (lines : List Line) (are : AreStepsOf tasks lines parts) where
+    (one : now ≡ was ++ line.step ∷ []) (tasks : ℕ) (lines : List Line) (are : AreStepsOf tasks lines parts) where
   was_own : was ≡ steps_of line.task lines
   was_own = is ∙ ap (value_or was) (sym (slice_get-get_or parts line.task was within) ∙ are.own line.task (omega (arith, within, are.count)))
 

@@ -1,4 +1,3 @@
-use Rattle.std.proofs.Common.{◌≡◌}
 use Rattle.share_work.proofs.Parts.{added}
 use Rattle.share_work.proofs.parting.add.Goals as goal
 
