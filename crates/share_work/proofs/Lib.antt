@@ -1,0 +1,8 @@
+mod Coming
+mod Holding
+mod Over
+mod Onward
+mod Collecting
+mod Stepping
+mod Leaving
+mod Parts
