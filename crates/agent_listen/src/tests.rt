@@ -17,7 +17,7 @@ fn calls(alloc: Global, text: &str) -> Result<TapeLink, Fail>
 }
 
 /// Whether no caller comes.
-fn is_alone(listen: &mut MemListen) -> bool{
+fn is_alone(listen: &mut MemListen) -> bool {
     match listen.next() {
         Ok(_) => false,
         Err(_) => true,
