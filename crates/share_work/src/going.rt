@@ -21,7 +21,7 @@ impl<J: Named, const POOL: usize, const QUEUE: usize, const INBOX: usize> Worker
     QUEUE,
     INBOX,
 > {
-    /// Does one piece of the task's work, and never waits for another thread.
+    /// Does one piece of the task's work. It waits at a gate that waits, else only while another thread is at its own step of queue or mailbox.
     pub fn go<R: Wait, G: Gate>(&mut self, rt: &R, gate: &G) -> Going
         ensures goes_on { GoesOn self.old self.new }
         ensures through { is_over result ≡ true → IsThrough self.new }
